@@ -1,0 +1,105 @@
+-- What a guard's pass tells, and what a caller of a guard has.
+-- Assumes nothing.
+use mathlib.Core.Path.{_≡_, refl, sym, ap, _∙_}
+use mathlib.Core.Bool.{Bool, true, false}
+use mathlib.Core.List.{List}
+use Prim.Native.Nat.{ℕ, zero, suc, _+_, _*_, _/_, _%_, _≤_, _<_}
+use native.Mathlib.Nat.{div-add-mod', zero-mul}
+use native.Mathlib.Omega.{arith}
+use borrow.Author.Tests.{leb-true, eqb-true, ltb-true, le-leb, lt-ltb}
+use lib.ListN.{length, drop, length-drop}
+use lib.Dec.{leb, ltb, eqb}
+use Rattle.payload_util.specs.Refusals.{row, check, _also_, refusalOf}
+use Rattle.payload_util.specs.Outcome.{Outcome, gives, refuses, outcome, guardOf}
+use Rattle.payload_util.specs.Guards.{exactLen, atLeast, multipleOf, positiveMultipleOf, declaredLen, counted, atMost, counts, room, present}
+use Rattle.payload_util.specs.declared.Refusal.{Refusal}
+use Rattle.payload_util.specs.declared.Guard.{Guard}
+use Rattle.payload_util.specs.declared.Guard.the-variants.{Pass, Refused}
+
+-- ---- a guard that passes
+
+pub check-pass : (b : Bool) (e : Refusal) → check b e ≡ Pass → b ≡ true
+check-pass true e h = refl
+check-pass false e h = cc
+
+pub also-pass : (g h : Guard) → (g also h) ≡ Pass → (g ≡ Pass) × (h ≡ Pass)
+also-pass Pass h e = (refl, e)
+also-pass (Refused r) h e = let z : _≡_ {A = ℕ} 0 1 = cc in absurd (omega arith)
+
+-- a record is given where the checks pass
+pub gives-pass : {A : Type 0} (g : Guard) (a r : A) → outcome g a ≡ gives r → (g ≡ Pass) × (a ≡ r)
+gives-pass Pass a r e = (refl, cc)
+gives-pass (Refused f) a r e = let z : _≡_ {A = ℕ} 0 1 = cc in absurd (omega arith)
+
+module _ (n code : ℕ) (p : List ℕ) where
+  pub exact-pass : exactLen n code p ≡ Pass → length p ≡ n
+  unfolding exactLen
+  exact-pass h = eqb-true _ _ (check-pass _ _ h)
+
+  pub least-pass : atLeast n code p ≡ Pass → n ≤ length p
+  unfolding atLeast
+  least-pass h = leb-true _ _ (check-pass _ _ h)
+
+  pub declared-pass : declaredLen n code p ≡ Pass → length p ≡ n
+  unfolding declaredLen
+  declared-pass h = eqb-true _ _ (check-pass _ _ h)
+
+  pub most-pass : atMost n code p ≡ Pass → length p ≤ n
+  unfolding atMost
+  most-pass h = leb-true _ _ (check-pass _ _ h)
+
+  pub pass-most : length p ≤ n → atMost n code p ≡ Pass
+  unfolding atMost
+  pass-most h = simp (le-leb _ _ h)
+
+  pub counted-pass : (m : ℕ) → counted n m code p ≡ Pass → (n ≤ length p) × (length (drop n p) ≡ m)
+  unfolding declaredLen
+  counted-pass m e =
+      let (least, all) = also-pass (atLeast n code p) (declaredLen (n + m) code p) e in
+      let l : length p ≡ n + m = eqb-true _ _ (check-pass _ _ all) in
+      (least-pass least, length-drop n p ∙ omega arith)
+
+  pub multiple-pass : positiveMultipleOf n code p ≡ Pass → (length p ≡ length p / n * n) × (zero < length p / n)
+  unfolding positiveMultipleOf multipleOf
+  multiple-pass e =
+      let (filled, rest) = also-pass (check (ltb 0 (length p)) (row 5 code n (length p))) _ e in
+      let (blocks, whole) = also-pass (check (ltb 0 n) (row 5 code n (length p))) _ rest in
+      let r : length p % n ≡ 0 = eqb-true _ _ (check-pass _ _ whole) in
+      let l : length p ≡ length p / n * n = sym (div-add-mod' (length p) n) ∙ omega arith in
+      (l, some (length p / n) l (ltb-true _ _ (check-pass _ _ filled)))
+    where
+      some : (m : ℕ) → length p ≡ m * n → zero < length p → zero < m
+      some zero e pos = absurd (omega (arith, zero-mul n))
+      some (suc m) e pos = omega arith
+
+pub room-pass : (code needed given : ℕ) → room code needed given ≡ Pass → needed ≤ given
+unfolding room
+room-pass code needed given h = leb-true _ _ (check-pass _ _ h)
+
+pub present-pass : (code k count : ℕ) → present code k count ≡ Pass → k < count
+unfolding present
+present-pass code k count h = ltb-true _ _ (check-pass _ _ h)
+
+pub pass-present : (code k count : ℕ) → k < count → present code k count ≡ Pass
+unfolding present
+pass-present code k count h = simp (lt-ltb _ _ h)
+
+-- ---- what a caller of a guard has: f is the guard's answer, and g what it is by its contract
+
+pub passed : {f g : Guard} → f ≡ g → f ≡ Pass → g ≡ Pass
+passed e p = cc
+
+-- the answer is handed on where it is a refusal
+pub stopped : {f g : Guard} {e : Refusal} (h : Guard) → f ≡ g → f ≡ Refused e → f ≡ (g also h)
+stopped h q p = p ∙ simp (sym q ∙ p)
+
+-- r is the refusal that was taken out of f
+pub refused : {f g : Guard} {e r : Refusal} → f ≡ g → f ≡ Refused e → r ≡ refusalOf f → g ≡ Refused r
+refused q p h = sym q ∙ p ∙ ap Refused (ap refusalOf (sym p) ∙ sym h)
+
+-- a check that asks a code table passes its answer on
+pub guard-gives : {A : Type 0} {o : Outcome A} {a : A} → o ≡ gives a → guardOf o ≡ Pass
+guard-gives e = simp e
+
+pub guard-refuses : {A : Type 0} {o : Outcome A} {e : Refusal} → o ≡ refuses e → guardOf o ≡ Refused e
+guard-refuses e = simp e

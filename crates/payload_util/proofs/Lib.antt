@@ -1,0 +1,9 @@
+pub mod Guards
+pub mod Parts
+pub mod Table
+pub mod Below
+pub mod InOrder
+pub mod Filled
+pub mod Words
+pub mod Scheme
+pub mod Forms

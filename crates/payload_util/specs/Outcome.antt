@@ -1,0 +1,30 @@
+-- What a reader gives: a record or a refusal. Each answer enum is mapped to this type.
+use mathlib.Core.List.{List, []}
+use Prim.Native.Nat.{ℕ}
+use Rattle.payload_util.specs.declared.Refusal.{Refusal}
+use Rattle.payload_util.specs.declared.Guard.{Guard}
+use Rattle.payload_util.specs.declared.Guard.the-variants.{Pass, Refused}
+
+pub data Outcome (A : Type 0) : Type 0 where
+  gives : A → Outcome A
+  refuses : Refusal → Outcome A
+
+-- the record where the checks pass
+abbrev pub outcome : {A : Type 0} → Guard → A → Outcome A
+outcome Pass a = gives a
+outcome (Refused e) a = refuses e
+
+-- the refusal alone: what a check answers
+abbrev pub guardOf : {A : Type 0} → Outcome A → Guard
+guardOf (gives a) = Pass
+guardOf (refuses e) = Refused e
+
+-- the value, or another where there is none
+abbrev pub valueOr : {A : Type 0} → A → Outcome A → A
+valueOr d (gives a) = a
+valueOr d (refuses e) = d
+
+-- a tail is empty where reading refuses
+abbrev pub tailWhere : Guard → List ℕ → List ℕ
+tailWhere Pass t = t
+tailWhere (Refused e) t = []

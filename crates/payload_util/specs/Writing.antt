@@ -1,0 +1,31 @@
+-- What a writer leaves: its answer and the buffer. Row 15 comes last, and a refusal changes no byte.
+use Prim.Native.Nat.{ℕ}
+use mathlib.Core.List.{List, _++_}
+use lib.ListN.{length, drop}
+use Rattle.payload_util.specs.Refusals.{_also_}
+use Rattle.payload_util.specs.Guards.{room}
+use Rattle.payload_util.specs.Outcome.{Outcome, gives, refuses}
+use Rattle.payload_util.specs.declared.Guard.{Guard}
+use Rattle.payload_util.specs.declared.Guard.the-variants.{Pass, Refused}
+use Rattle.payload_util.specs.declared.Written.{Written}
+use Rattle.payload_util.specs.declared.Written.the-variants.{Wrote, Refused as NotWritten}
+
+abbrev pub Left : Type 0
+Left = Written × List ℕ
+
+-- the bytes at the front of the buffer where all checks pass, and the buffer as it was where one refuses
+abbrev pub left : Guard → List ℕ → List ℕ → Left
+left Pass bytes out = (Wrote (length bytes), bytes ++ drop (length bytes) out)
+left (Refused e) bytes out = (NotWritten e, out)
+
+-- the kind's own checks, then room
+abbrev pub write : Guard → ℕ → List ℕ → List ℕ → Left
+write g code bytes out = left (g also room code (length bytes) (length out)) bytes out
+
+abbrev pub put : ℕ → List ℕ → List ℕ → Left
+put code bytes out = write Pass code bytes out
+
+-- a payload read, and its record written again
+abbrev pub rewrite : {A : Type 0} → Outcome A → (A → Left) → List ℕ → Left
+rewrite (gives a) writes out = writes a
+rewrite (refuses e) writes out = (NotWritten e, out)
