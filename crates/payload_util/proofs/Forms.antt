@@ -47,9 +47,8 @@ module _ {A : Type 0} {l : Loss} (g : List ℕ → Guard) (of : List ℕ → A) 
   pub fixed-law : ((p : List ℕ) → Bytes p → g p ≡ Pass → bytes (of p) ≡ without l p)
       → ((p : List ℕ) → Bytes p → g p ≡ Pass → refuse (of p) ≡ Pass)
       → ((r : A) → refuse r ≡ Pass → of (bytes r) ≡ r)
-      → Law (fixed A g (λ p. outcome (g p) (of p)) (λ r out. write (refuse r) code (bytes r) out)) l
+      → Law code (fixed A g (λ p. outcome (g p) (of p)) (λ r out. write (refuse r) code (bytes r) out)) l
   fixed-law keeps writable restores = record {
-    code = code;
     of = of;
     bytes = bytes;
     refuse = refuse;
@@ -69,9 +68,8 @@ module _ {A : Type 0} {l : Loss} (g : List ℕ → Guard) (of : List ℕ → A) 
       → ((p : List ℕ) → Bytes p → g p ≡ Pass → refuse (of p) (rest p) ≡ Pass)
       → ((r : A) (t : List ℕ) → refuse r t ≡ Pass → of (bytes r t) ≡ r)
       → ((r : A) (t : List ℕ) → drop n (bytes r t) ≡ t)
-      → Law (tailed A g (λ p. outcome (g p) (of p)) (λ p. tailWhere (g p) (rest p)) (λ r t out. write (refuse r t) code (bytes r t) out)) l
+      → Law code (tailed A g (λ p. outcome (g p) (of p)) (λ p. tailWhere (g p) (rest p)) (λ r t out. write (refuse r t) code (bytes r t) out)) l
   tailed-law keeps writable restores restores-tail = record {
-    code = code;
     of = λ p. (of p, rest p);
     bytes = λ r. bytes (r .0) (r .1);
     refuse = λ r. refuse (r .0) (r .1);
@@ -145,10 +143,9 @@ module _ {A : Type 0} (of : List ℕ → A) (bytes : A → List ℕ) (w : ℕ) (
   pub listed-law : {code : ℕ} {l : Loss} (g : List ℕ → Guard) → zero < w
       → ((p : List ℕ) → g p ≡ Pass → zero < length p / w)
       → ((p : List ℕ) → Bytes p → g p ≡ Pass → flat bytes (each of w (length p / w) p) ≡ without l p)
-      → Law (listed w A g (λ p k. outcome (g p also present code k (length p / w)) (of (drop (w * k) p)))
+      → Law code (listed w A g (λ p k. outcome (g p also present code k (length p / w)) (of (drop (w * k) p)))
       (λ p. each of w (length p / w) p) (λ rs out. write (notEmpty code rs) code (flat bytes rs) out)) l
   listed-law {code} {l} g pos some keeps = record {
-    code = code;
     of = records;
     bytes = flat bytes;
     refuse = notEmpty code;

@@ -21,8 +21,7 @@ use Rattle.payload_util.proofs.Guards.{also-pass}
 
 -- What a kind owes. `of` is what stands at each offset, whether the payload is accepted or not; `bytes` are those of a record, and `refuse` is
 -- what its writer refuses it for, room aside.
-pub record Law (f : Form) (l : Loss) : Type 0 where
-  pub code : ℕ
+pub record Law (code : ℕ) (f : Form) (l : Loss) : Type 0 where
   pub of : List ℕ → Record f
   pub bytes : Record f → List ℕ
   pub refuse : Record f → Guard
@@ -47,7 +46,7 @@ wrote g code bs out n e = go (g also room code (length bs) (length out)) refl e
     go Pass q k = (rw q (take-at bs (drop (length bs) out) n (cc)), also-pass g _ q .0)
     go (Refused r) q k = let z : _≡_ {A = ℕ} 0 1 = cc in absurd (omega arith)
 
-module _ (f : Form) (l : Loss) (law : Law f l) where
+module _ (code : ℕ) (f : Form) (l : Loss) (law : Law code f l) where
   injective : (r s : Record f) → law .refuse r ≡ Pass → law .refuse s ≡ Pass → law .bytes r ≡ law .bytes s → r ≡ s
   injective r s wr ws e = sym (law .restored r wr) ∙ ap (law .back) e ∙ law .restored s ws
 
@@ -59,7 +58,7 @@ module _ (f : Form) (l : Loss) (law : Law f l) where
   gives : (r : Record f) (b : List ℕ) → Gives f r b → (b ≡ law .bytes r) × (law .refuse r ≡ Pass)
   gives r b (out, n, w, e) =
       let s = law .writes r out in
-      let (t, g) = wrote (law .refuse r) (law .code) (law .bytes r) out n (sym (ap (λ (k : Left). k .0) s) ∙ w) in
+      let (t, g) = wrote (law .refuse r) code (law .bytes r) out n (sym (ap (λ (k : Left). k .0) s) ∙ w) in
       (e ∙ ap (λ (k : Left). take n (k .1)) s ∙ t, g)
 
   pub loses-only : LosesOnly f l
@@ -76,11 +75,16 @@ module _ (f : Form) (l : Loss) (law : Law f l) where
   )
 
   -- normalise is the reader's checks, and then the payload without what is lost
-  pub normalise-is : (p out : List ℕ) → Bytes p → normalised f p out ≡ write (checked f p) (law .code) (without l p) out
+  pub normalise-is : (p out : List ℕ) → Bytes p → normalised f p out ≡ write (checked f p) code (without l p) out
   normalise-is p out b = law .rewrites p out ∙ go (checked f p) refl
     where
-      go : (g : Guard) → checked f p ≡ g → rewrite (outcome g (law .of p)) (λ r. written f r out) out ≡ write g (law .code) (without l p) out
+      go : (g : Guard) → checked f p ≡ g → rewrite (outcome g (law .of p)) (λ r. written f r out) out ≡ write g code (without l p) out
       go Pass q =
           law .writes (law .of p) out
-          ∙ ap₂ {C = Left} (λ g bs. write g (law .code) bs out) (law .writable p b q) (law .kept p b q)
+          ∙ ap₂ {C = Left} (λ g bs. write g code bs out) (law .writable p b q) (law .kept p b q)
       go (Refused r) q = refl
+
+  -- so a function that checks, and then writes what is kept, normalises
+  pub normalises : {x : Left} (p out bs : List ℕ) (g : Guard) → Bytes p → x ≡ write g code bs out → g ≡ checked f p → bs ≡ without l p
+      → x ≡ normalised f p out
+  normalises p out bs g b x is kept = x ∙ ap₂ {C = Left} (λ g bs. write g code bs out) is kept ∙ sym (normalise-is p out b)

@@ -1,0 +1,83 @@
+// osdp_MFG (0x80), manufacturer-specific command: the vendor's OUI, and data that only the vendor reads.
+use payload_util::Guard;
+use payload_util::Refusal;
+use payload_util::Written;
+use payload_util::put_bytes;
+use payload_util::put_checked;
+use payload_util::require_at_least;
+use payload_util::tail_where;
+ghost use mathlib.Core.Path.{_≡_};
+ghost use Prim.Native.Nat.{_≤_};
+ghost use lib.ListN.{length};
+ghost use Rattle.payload_util.specs.Form.{normalised};
+ghost use Rattle.mfg.specs.Mfg.{checkMfg, mfgOf, mfgOutcome, readMfg, mfgTail, writeMfg, mfgForm};
+
+// The fixed fields: the vendor's OUI. The vendor's data is the tail.
+pub struct Mfg {
+    pub oui_0: u8,
+    pub oui_1: u8,
+    pub oui_2: u8,
+}
+
+pub enum MfgRead {
+    Read(Mfg),
+    Refused(Refusal),
+}
+
+impl Mfg {
+    pub const CODE: u8 = 0x80;
+
+    pub const WIRE_LEN: usize = 3;
+
+    pub fn check(p: &[u8]) -> Guard
+        ensures { λ r. ⌜ r ≡ checkMfg (now (p .entry)) ⌝ }
+    {
+        require_at_least(p, Self::WIRE_LEN, Self::CODE)
+    }
+
+    pub fn decode(p: &[u8]) -> MfgRead
+        ensures { λ r. ⌜ mfgOutcome r ≡ readMfg (now (p .entry)) ⌝ }
+    {
+        let checked = Self::check(p);
+        let Guard::Pass = checked else {
+            return MfgRead::Refused(checked.refusal());
+        };
+        MfgRead::Read(Self::fields(p))
+    }
+
+    fn fields(p: &[u8]) -> Mfg
+        requires { ⌜ 3 ≤ length (now p) ⌝ }
+        ensures { λ r. ⌜ r ≡ mfgOf (now (p .entry)) ⌝ }
+    {
+        Mfg {
+            oui_0: p[0],
+            oui_1: p[1],
+            oui_2: p[2],
+        }
+    }
+
+    // The vendor's data; nothing where reading refuses.
+    pub fn payload(p: &[u8]) -> &[u8]
+        ensures { λ r. ⌜ now r ≡ mfgTail (now (p .entry)) ⌝ }
+    {
+        tail_where(Self::check(p), p, Self::WIRE_LEN)
+    }
+
+    pub fn encode(self, payload: &[u8], out: &mut [u8]) -> Written
+        ensures { λ r. ⌜ (r, now (out .exit)) ≡ writeMfg self (now (payload .entry)) (now (out .entry)) ⌝ }
+    {
+        put_bytes(
+            &[self.oui_0, self.oui_1, self.oui_2],
+            payload,
+            Self::CODE,
+            out,
+        )
+    }
+
+    // Reading loses nothing: an accepted payload is written as it came.
+    pub fn normalise(p: &[u8], out: &mut [u8]) -> Written
+        ensures { λ r. ⌜ (r, now (out .exit)) ≡ normalised mfgForm (now (p .entry)) (now (out .entry)) ⌝ }
+    {
+        put_checked(Self::check(p), p, &[], Self::CODE, out)
+    }
+}
