@@ -7,3 +7,4 @@ pub mod Filled
 pub mod Words
 pub mod Scheme
 pub mod Forms
+pub mod Losses
