@@ -109,6 +109,15 @@ module _ {A : Type 0} (of : List ℕ → A) (w : ℕ) where
       each-at n (drop w p) k d (le-of-suc-le-suc h) ∙ ap of (drop-drop (w * k) w p)
       ∙ ap (λ (m : ℕ). of (drop m p)) (add-comm w (w * k) ∙ sym (mul-suc w k))
 
+  -- one record more
+  pub each-next : (n : ℕ) (p : List ℕ) → each of w (suc n) p ≡ each of w n p ++ (of (drop (w * n) p) ∷ [])
+  each-next zero p = ap (λ (m : ℕ). of (drop m p) ∷ []) (sym (mul-zero w))
+  each-next (suc n) p =
+      ap (λ (l : List A). of p ∷ l)
+      (each-next n (drop w p)
+      ∙ ap (λ (q : List ℕ). each of w n (drop w p) ++ (of q ∷ []))
+      (drop-drop (w * n) w p ∙ ap (λ (m : ℕ). drop m p) (add-comm w (w * n) ∙ sym (mul-suc w n))))
+
 -- f is what is left of n records, Good what is known of them
 module _ {A : Type 0} (of : List ℕ → A) (bytes : A → List ℕ) (w : ℕ) (Good : ℕ → List ℕ → Type 0) (f : ℕ → List ℕ → List ℕ)
     (none : f zero [] ≡ [])

@@ -6,7 +6,7 @@ use mathlib.Core.List.{List}
 use Prim.Native.Nat.{ℕ, zero, suc, _+_, _*_, _/_, _%_, _≤_, _<_}
 use native.Mathlib.Nat.{div-add-mod', zero-mul}
 use native.Mathlib.Omega.{arith}
-use borrow.Author.Tests.{leb-true, eqb-true, ltb-true, le-leb, lt-ltb}
+use borrow.Author.Tests.{leb-true, eqb-true, ltb-true, le-leb, lt-ltb, eq-eqb}
 use lib.ListN.{length, drop, length-drop}
 use lib.Dec.{leb, ltb, eqb}
 use Rattle.payload_util.specs.Refusals.{row, check, _also_, refusalOf}
@@ -25,6 +25,13 @@ check-pass false e h = cc
 pub also-pass : (g h : Guard) → (g also h) ≡ Pass → (g ≡ Pass) × (h ≡ Pass)
 also-pass Pass h e = (refl, e)
 also-pass (Refused r) h e = let z : _≡_ {A = ℕ} 0 1 = cc in absurd (omega arith)
+
+-- the same one by one: `search (also-left, also-right)` finds any guard of a row
+pub also-left : (g h : Guard) → (g also h) ≡ Pass → g ≡ Pass
+also-left g h e = also-pass g h e .0
+
+pub also-right : (g h : Guard) → (g also h) ≡ Pass → h ≡ Pass
+also-right g h e = also-pass g h e .1
 
 -- a record is given where the checks pass
 pub gives-pass : {A : Type 0} (g : Guard) (a r : A) → outcome g a ≡ gives r → (g ≡ Pass) × (a ≡ r)
@@ -52,6 +59,10 @@ module _ (n code : ℕ) (p : List ℕ) where
   unfolding atMost
   pass-most h = simp (le-leb _ _ h)
 
+  pub pass-counts : length p ≡ n → counts n code p ≡ Pass
+  unfolding counts
+  pass-counts h = simp (eq-eqb _ _ h)
+
   pub counted-pass : (m : ℕ) → counted n m code p ≡ Pass → (n ≤ length p) × (length (drop n p) ≡ m)
   unfolding declaredLen
   counted-pass m e =
@@ -75,6 +86,10 @@ module _ (n code : ℕ) (p : List ℕ) where
 pub room-pass : (code needed given : ℕ) → room code needed given ≡ Pass → needed ≤ given
 unfolding room
 room-pass code needed given h = leb-true _ _ (check-pass _ _ h)
+
+pub pass-room : (code needed given : ℕ) → needed ≤ given → room code needed given ≡ Pass
+unfolding room
+pass-room code needed given h = simp (le-leb _ _ h)
 
 pub present-pass : (code k count : ℕ) → present code k count ≡ Pass → k < count
 unfolding present

@@ -6,7 +6,7 @@ ghost use lib.ListN.{length, drop};
 ghost use lib.Seq.{paste};
 ghost use Rattle.payload_util.specs.Refusals.{row, check, refusalOf};
 ghost use Rattle.payload_util.specs.Outcome.{tailWhere};
-ghost use Rattle.payload_util.specs.Guards.{exactLen, atLeast, positiveMultipleOf, multipleOf, declaredLen, atMost, counts, room};
+ghost use Rattle.payload_util.specs.Guards.{exactLen, atLeast, positiveMultipleOf, multipleOf, declaredLen, atMost, counts, room, present};
 ghost use Rattle.payload_util.specs.Writing.{write, put};
 
 // A row of the refusal table: its number, the payload's code byte, and the two values that the row names, else 0.
@@ -123,6 +123,13 @@ pub fn require_room(needed: usize, code: u8, given: usize) -> Guard
     ensures { λ r. ⌜ r ≡ room code needed given ⌝ }
 {
     require(needed <= given, 15, code, needed, given)
+}
+
+// Row 16: a list has a record k.
+pub fn require_present(k: usize, count: usize, code: u8) -> Guard
+    ensures { λ r. ⌜ r ≡ present code k count ⌝ }
+{
+    require(k < count, 16, code, k, count)
 }
 
 // The bytes from an offset on; none where the payload ends before.

@@ -1,0 +1,134 @@
+// osdp_FILETRANSFER (0x7C): a file for the PD, a fragment at a time.
+use payload_util::Guard;
+use payload_util::Refusal;
+use payload_util::Written;
+use payload_util::high_byte;
+use payload_util::high_half;
+use payload_util::low_byte;
+use payload_util::low_half;
+use payload_util::put_bytes;
+use payload_util::put_checked;
+use payload_util::require_at_least;
+use payload_util::require_at_most;
+use payload_util::require_declared_len;
+use payload_util::tail_where;
+use payload_util::u16_of;
+use payload_util::u32_of;
+ghost use mathlib.Core.Path.{_≡_};
+ghost use Prim.Native.Nat.{_+_, _≤_};
+ghost use lib.ListN.{length};
+ghost use Rattle.payload_util.specs.Bytes.{longAt, long};
+ghost use Rattle.payload_util.specs.Form.{normalised};
+ghost use Rattle.file_transfer.specs.FileTransfer.{checkFileTransfer, fileTransferOf, fileTransferOutcome, readFileTransfer, fileTransferTail, writeFileTransfer, fileTransferForm};
+
+// The number of four bytes at an offset, low byte first.
+fn u32_at(p: &[u8], at: usize) -> u32
+    requires { ⌜ at + 4 ≤ length (now p) ⌝ }
+    ensures { λ r. ⌜ r ≡ longAt (now (p .entry)) at ⌝ }
+{
+    let high = at + 2;
+    u32_of(u16_of(p[at], p[at + 1]), u16_of(p[high], p[high + 1]))
+}
+
+// The four bytes of a number.
+fn u32_bytes(n: u32) -> [u8; 4]
+    ensures { λ r. ⌜ r ≡ long n ⌝ }
+{
+    let low = low_half(n);
+    let high = high_half(n);
+    [
+        low_byte(low),
+        high_byte(low),
+        low_byte(high),
+        high_byte(high),
+    ]
+}
+
+// The fixed fields; the fragment is the tail, and its length stands in no field.
+pub struct FileTransfer {
+    pub file_type: u8,
+    pub total_size: u32,
+    pub offset: u32,
+}
+
+pub enum FileTransferRead {
+    Read(FileTransfer),
+    Refused(Refusal),
+}
+
+impl FileTransfer {
+    pub const CODE: u8 = 0x7C;
+
+    pub const WIRE_LEN: usize = 11;
+
+    pub fn check(p: &[u8]) -> Guard
+        ensures { λ r. ⌜ r ≡ checkFileTransfer (now (p .entry)) ⌝ }
+    {
+        let fixed = require_at_least(p, Self::WIRE_LEN, Self::CODE);
+        let Guard::Pass = fixed else {
+            return fixed;
+        };
+        require_declared_len(p, Self::WIRE_LEN + u16_of(p[9], p[10]) as usize, Self::CODE)
+    }
+
+    pub fn decode(p: &[u8]) -> FileTransferRead
+        ensures { λ r. ⌜ fileTransferOutcome r ≡ readFileTransfer (now (p .entry)) ⌝ }
+    {
+        let checked = Self::check(p);
+        let Guard::Pass = checked else {
+            return FileTransferRead::Refused(checked.refusal());
+        };
+        FileTransferRead::Read(Self::fields(p))
+    }
+
+    fn fields(p: &[u8]) -> FileTransfer
+        requires { ⌜ 11 ≤ length (now p) ⌝ }
+        ensures { λ r. ⌜ r ≡ fileTransferOf (now (p .entry)) ⌝ }
+    {
+        FileTransfer {
+            file_type: p[0],
+            total_size: u32_at(p, 1),
+            offset: u32_at(p, 5),
+        }
+    }
+
+    // The fragment; nothing where reading refuses.
+    pub fn fragment(p: &[u8]) -> &[u8]
+        ensures { λ r. ⌜ now r ≡ fileTransferTail (now (p .entry)) ⌝ }
+    {
+        tail_where(Self::check(p), p, Self::WIRE_LEN)
+    }
+
+    pub fn encode(self, fragment: &[u8], out: &mut [u8]) -> Written
+        ensures { λ r. ⌜ (r, now (out .exit)) ≡ writeFileTransfer self (now (fragment .entry)) (now (out .entry)) ⌝ }
+    {
+        let short = require_at_most(fragment, 65535, Self::CODE);
+        let Guard::Pass = short else {
+            return Written::Refused(short.refusal());
+        };
+        let total = u32_bytes(self.total_size);
+        let offset = u32_bytes(self.offset);
+        let len = fragment.len() as u16;
+        let head = [
+            self.file_type,
+            total[0],
+            total[1],
+            total[2],
+            total[3],
+            offset[0],
+            offset[1],
+            offset[2],
+            offset[3],
+            low_byte(len),
+            high_byte(len),
+        ];
+        put_bytes(&head, fragment, Self::CODE, out)
+    }
+
+    // Reading loses nothing: an accepted payload is written as it came.
+    pub fn normalise(p: &[u8], out: &mut [u8]) -> Written
+        ensures { λ r. ⌜ (r, now (out .exit)) ≡ normalised fileTransferForm (now (p .entry)) (now (out .entry)) ⌝ }
+    {
+        put_checked(Self::check(p), p, &[], Self::CODE, out)
+    }
+}

@@ -1,0 +1,64 @@
+-- The laws of TEXT's commands, and TEXT's part of demand 3.
+-- Assumes nothing.
+use mathlib.Core.Path.{_≡_, refl}
+use mathlib.Core.List.{List}
+use Prim.Native.Nat.{ℕ, _≤_}
+use native.Mathlib.Omega.{arith}
+use lib.ListN.{length, drop}
+use Rattle.payload_util.specs.Refusals.{row}
+use Rattle.payload_util.specs.Outcome.{gives, guardOf, valueOr}
+use Rattle.payload_util.specs.Guards.{counted}
+use Rattle.payload_util.specs.Bytes.{byteAt}
+use Rattle.payload_util.specs.declared.Guard.the-variants.{Pass}
+use Rattle.payload_util.proofs.Guards.{also-left, also-right, counted-pass, pass-most}
+use Rattle.payload_util.proofs.Table.{exact, exact-value}
+use Rattle.payload_util.proofs.Scheme.{Law}
+use Rattle.payload_util.proofs.Forms.{tailed-law, by-head}
+use Rattle.text.specs.TextCommand.{textCode, textCommandByte, textCommands, readTextCommand}
+use Rattle.text.specs.Text.{printable, textShape, checkText, textOf, refuseText, textBytes, textForm, textLoss}
+use Rattle.text.specs.declared.TextCommand.{TextCommand}
+use Rattle.text.specs.declared.TextCommand.the-variants.{PermanentNoWrap, PermanentWrap, TemporaryNoWrap, TemporaryWrap}
+
+-- a command's byte reads back as the command
+pub text-command-back : (c : TextCommand) → readTextCommand (textCommandByte c) ≡ gives c
+unfolding readTextCommand
+text-command-back c =
+    elim c [
+      | PermanentNoWrap ↦ refl
+      | PermanentWrap ↦ refl
+      | TemporaryNoWrap ↦ refl
+      | TemporaryWrap ↦ refl
+    ]
+
+-- a byte that reads as a command is that command's byte
+pub text-command-exact : (b : ℕ) (c : TextCommand) → readTextCommand b ≡ gives c → textCommandByte c ≡ b
+unfolding readTextCommand
+text-command-exact b = exact textCommandByte (row 9 textCode 0 0) textCommands b
+
+text-command-kept : (b : ℕ) → guardOf (readTextCommand b) ≡ Pass
+    → textCommandByte (valueOr PermanentNoWrap (readTextCommand b)) ≡ b
+unfolding readTextCommand
+text-command-kept b = exact-value textCommandByte (row 9 textCode 0 0) textCommands b PermanentNoWrap
+
+-- the fixed fields are there before the command is looked at
+pub shape-least : (p : List ℕ) → textShape p ≡ Pass → 6 ≤ length p
+unfolding textShape
+shape-least p g = counted-pass 6 textCode p (byteAt p 5) (search also-left) .0
+
+text-passes : (p : List ℕ) → checkText p ≡ Pass
+    → (counted 6 (byteAt p 5) textCode p ≡ Pass) × (printable (drop 6 p) ≡ Pass) × (guardOf (readTextCommand (byteAt p 1)) ≡ Pass)
+unfolding textShape checkText
+text-passes p g = search (also-left, also-right)
+
+pub text-law : Law textCode textForm textLoss
+text-law =
+    tailed-law checkText textOf (drop 6) refuseText textCode textBytes 6
+    (λ p b g.
+    let (whole, shown, command) = text-passes p g in
+    let (h, e) = counted-pass 6 textCode p (byteAt p 5) whole in
+    by-head 6 p (λ q. q) h (simp (e, text-command-kept (byteAt p 1) command)))
+    (λ p b g.
+    let (whole, shown, command) = text-passes p g in
+    let short : length (drop 6 p) ≤ 255 = omega (arith, counted-pass 6 textCode p (byteAt p 5) whole .1, b 5) in
+    simp (shown, pass-most 255 textCode (drop 6 p) short))
+    (λ t s w. simp text-command-back) (λ t s. refl)

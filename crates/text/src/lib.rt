@@ -1,0 +1,194 @@
+// osdp_TEXT (0x6B): text for a reader's display.
+use payload_util::Guard;
+use payload_util::Refusal;
+use payload_util::Written;
+use payload_util::put_bytes;
+use payload_util::put_checked;
+use payload_util::require_at_least;
+use payload_util::require_at_most;
+use payload_util::require_declared_len;
+use payload_util::tail_from;
+use payload_util::tail_where;
+ghost use mathlib.Core.Path.{_≡_};
+ghost use Prim.Native.Nat.{_≤_};
+ghost use lib.ListN.{length};
+ghost use Rattle.payload_util.specs.Form.{normalised};
+ghost use Rattle.text.specs.TextCommand.{textCommandByte, textCommandOutcome, readTextCommand};
+ghost use Rattle.text.specs.Text.{printable, textShape, checkText, textWith, textOutcome, readText, textTail, writeText, textForm};
+
+// Table 21.
+pub enum TextCommand {
+    PermanentNoWrap,
+    PermanentWrap,
+    TemporaryNoWrap,
+    TemporaryWrap,
+}
+
+pub enum TextCommandRead {
+    Read(TextCommand),
+    Refused(Refusal),
+}
+
+impl TextCommand {
+    // Row 9 of a byte that is no command's.
+    pub fn from_byte(b: u8) -> TextCommandRead
+        ensures { λ r. ⌜ textCommandOutcome r ≡ readTextCommand b ⌝ }
+    {
+        match b {
+            0x01 => TextCommandRead::Read(TextCommand::PermanentNoWrap),
+            0x02 => TextCommandRead::Read(TextCommand::PermanentWrap),
+            0x03 => TextCommandRead::Read(TextCommand::TemporaryNoWrap),
+            0x04 => TextCommandRead::Read(TextCommand::TemporaryWrap),
+            _ => TextCommandRead::Refused(Refusal {
+                number: 9,
+                code: Text::CODE,
+                first: 0,
+                second: 0,
+            }),
+        }
+    }
+
+    pub fn as_byte(self) -> u8
+        ensures { λ r. ⌜ r ≡ textCommandByte self ⌝ }
+    {
+        match self {
+            TextCommand::PermanentNoWrap => 0x01,
+            TextCommand::PermanentWrap => 0x02,
+            TextCommand::TemporaryNoWrap => 0x03,
+            TextCommand::TemporaryWrap => 0x04,
+        }
+    }
+}
+
+// The fixed fields; the text is the tail.
+pub struct Text {
+    pub reader: u8,
+    pub command: TextCommand,
+    // Seconds; 0 for a permanent command.
+    pub temp_time_s: u8,
+    pub row: u8,
+    pub column: u8,
+}
+
+pub enum TextRead {
+    Read(Text),
+    Refused(Refusal),
+}
+
+impl Text {
+    pub const CODE: u8 = 0x6B;
+
+    // The length field included.
+    pub const WIRE_LEN: usize = 6;
+
+    // Row 8 at the first byte outside 0x20 to 0x7E.
+    pub fn validate_ascii(s: &[u8]) -> Guard
+        ensures { λ r. ⌜ r ≡ printable (now (s .entry)) ⌝ }
+    {
+        let mut i = 0;
+        while i < s.len() {
+            let b = s[i];
+            if b < 0x20 || 0x7E < b {
+                return Guard::Refused(Refusal {
+                    number: 8,
+                    code: Self::CODE,
+                    first: 0,
+                    second: 0,
+                });
+            }
+            i += 1;
+        }
+        Guard::Pass
+    }
+
+    // The checks that come before the command.
+    fn shape(p: &[u8]) -> Guard
+        ensures { λ r. ⌜ r ≡ textShape (now (p .entry)) ⌝ }
+    {
+        let fixed = require_at_least(p, Self::WIRE_LEN, Self::CODE);
+        let Guard::Pass = fixed else {
+            return fixed;
+        };
+        let whole = require_declared_len(p, Self::WIRE_LEN + p[5] as usize, Self::CODE);
+        let Guard::Pass = whole else {
+            return whole;
+        };
+        Self::validate_ascii(tail_from(p, Self::WIRE_LEN))
+    }
+
+    pub fn check(p: &[u8]) -> Guard
+        ensures { λ r. ⌜ r ≡ checkText (now (p .entry)) ⌝ }
+    {
+        let shape = Self::shape(p);
+        let Guard::Pass = shape else {
+            return shape;
+        };
+        match TextCommand::from_byte(p[1]) {
+            TextCommandRead::Read(_) => Guard::Pass,
+            TextCommandRead::Refused(e) => Guard::Refused(e),
+        }
+    }
+
+    pub fn decode(p: &[u8]) -> TextRead
+        ensures { λ r. ⌜ textOutcome r ≡ readText (now (p .entry)) ⌝ }
+    {
+        let shape = Self::shape(p);
+        let Guard::Pass = shape else {
+            return TextRead::Refused(shape.refusal());
+        };
+        match TextCommand::from_byte(p[1]) {
+            TextCommandRead::Read(command) => TextRead::Read(Self::fields(p, command)),
+            TextCommandRead::Refused(e) => TextRead::Refused(e),
+        }
+    }
+
+    fn fields(p: &[u8], command: TextCommand) -> Text
+        requires { ⌜ 6 ≤ length (now p) ⌝ }
+        ensures { λ r. ⌜ r ≡ textWith command (now (p .entry)) ⌝ }
+    {
+        Text {
+            reader: p[0],
+            command,
+            temp_time_s: p[2],
+            row: p[3],
+            column: p[4],
+        }
+    }
+
+    // The text; nothing where reading refuses.
+    pub fn text(p: &[u8]) -> &[u8]
+        ensures { λ r. ⌜ now r ≡ textTail (now (p .entry)) ⌝ }
+    {
+        tail_where(Self::check(p), p, Self::WIRE_LEN)
+    }
+
+    pub fn encode(self, text: &[u8], out: &mut [u8]) -> Written
+        ensures { λ r. ⌜ (r, now (out .exit)) ≡ writeText self (now (text .entry)) (now (out .entry)) ⌝ }
+    {
+        let shown = Self::validate_ascii(text);
+        let Guard::Pass = shown else {
+            return Written::Refused(shown.refusal());
+        };
+        let short = require_at_most(text, 255, Self::CODE);
+        let Guard::Pass = short else {
+            return Written::Refused(short.refusal());
+        };
+        let command = self.command;
+        let head = [
+            self.reader,
+            command.as_byte(),
+            self.temp_time_s,
+            self.row,
+            self.column,
+            text.len() as u8,
+        ];
+        put_bytes(&head, text, Self::CODE, out)
+    }
+
+    // Reading loses nothing: an accepted payload is written as it came.
+    pub fn normalise(p: &[u8], out: &mut [u8]) -> Written
+        ensures { λ r. ⌜ (r, now (out .exit)) ≡ normalised textForm (now (p .entry)) (now (out .entry)) ⌝ }
+    {
+        put_checked(Self::check(p), p, &[], Self::CODE, out)
+    }
+}
