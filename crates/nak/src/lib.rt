@@ -1,0 +1,152 @@
+// osdp_NAK (0x41), the reply to a command that was not taken: an error, and beside one error completion codes.
+use payload_util::Guard;
+use payload_util::Refusal;
+use payload_util::Written;
+use payload_util::put_bytes;
+use payload_util::put_checked;
+use payload_util::require_at_least;
+use payload_util::tail_where;
+ghost use mathlib.Core.Path.{_≡_};
+ghost use Rattle.payload_util.specs.Form.{normalised};
+ghost use Rattle.payload_util.specs.Loss.{without};
+ghost use Rattle.nak.specs.Nak.{nakErrorByte, nakErrorOutcome, readNakError, checkNak, nakOutcome, readNak, nakTail, writeNak, nakForm, nakLoss};
+
+// NAK error code (Table 47).
+pub enum NakErrorCode {
+    NoError,
+    BadCrcOrChecksum,
+    CommandLengthError,
+    UnknownCommandCode,
+    UnexpectedSequenceNumber,
+    SecurityBlockTypeNotSupported,
+    EncryptedCommunicationRequired,
+    BioTypeNotSupported,
+    BioFormatNotSupported,
+    UnableToProcessCommandRecord,
+}
+
+pub enum NakErrorCodeRead {
+    Read(NakErrorCode),
+    Refused(Refusal),
+}
+
+impl NakErrorCode {
+    pub fn from_byte(b: u8) -> NakErrorCodeRead
+        ensures { λ r. ⌜ nakErrorOutcome r ≡ readNakError b ⌝ }
+    {
+        match b {
+            0x00 => NakErrorCodeRead::Read(NakErrorCode::NoError),
+            0x01 => NakErrorCodeRead::Read(NakErrorCode::BadCrcOrChecksum),
+            0x02 => NakErrorCodeRead::Read(NakErrorCode::CommandLengthError),
+            0x03 => NakErrorCodeRead::Read(NakErrorCode::UnknownCommandCode),
+            0x04 => NakErrorCodeRead::Read(NakErrorCode::UnexpectedSequenceNumber),
+            0x05 => NakErrorCodeRead::Read(NakErrorCode::SecurityBlockTypeNotSupported),
+            0x06 => NakErrorCodeRead::Read(NakErrorCode::EncryptedCommunicationRequired),
+            0x07 => NakErrorCodeRead::Read(NakErrorCode::BioTypeNotSupported),
+            0x08 => NakErrorCodeRead::Read(NakErrorCode::BioFormatNotSupported),
+            0x09 => NakErrorCodeRead::Read(NakErrorCode::UnableToProcessCommandRecord),
+            _ => NakErrorCodeRead::Refused(Refusal {
+                number: 10,
+                code: Nak::CODE,
+                first: 0,
+                second: 0,
+            }),
+        }
+    }
+
+    pub fn as_byte(self) -> u8
+        ensures { λ r. ⌜ r ≡ nakErrorByte self ⌝ }
+    {
+        match self {
+            NakErrorCode::NoError => 0x00,
+            NakErrorCode::BadCrcOrChecksum => 0x01,
+            NakErrorCode::CommandLengthError => 0x02,
+            NakErrorCode::UnknownCommandCode => 0x03,
+            NakErrorCode::UnexpectedSequenceNumber => 0x04,
+            NakErrorCode::SecurityBlockTypeNotSupported => 0x05,
+            NakErrorCode::EncryptedCommunicationRequired => 0x06,
+            NakErrorCode::BioTypeNotSupported => 0x07,
+            NakErrorCode::BioFormatNotSupported => 0x08,
+            NakErrorCode::UnableToProcessCommandRecord => 0x09,
+        }
+    }
+}
+
+// The fixed field: the error. Completion codes, one for each record of the command, are the tail.
+pub struct Nak {
+    pub error: NakErrorCode,
+}
+
+pub enum NakRead {
+    Read(Nak),
+    Refused(Refusal),
+}
+
+impl Nak {
+    pub const CODE: u8 = 0x41;
+
+    pub const WIRE_LEN: usize = 1;
+
+    // A NAK to be written without completion codes.
+    pub fn simple(err: NakErrorCode) -> Nak
+        ensures { λ r. ⌜ r .error ≡ err ⌝ }
+    {
+        Nak { error: err }
+    }
+
+    pub fn decode(p: &[u8]) -> NakRead
+        ensures { λ r. ⌜ nakOutcome r ≡ readNak (now (p .entry)) ⌝ }
+    {
+        let fixed = require_at_least(p, Self::WIRE_LEN, Self::CODE);
+        let Guard::Pass = fixed else {
+            return NakRead::Refused(fixed.refusal());
+        };
+        match NakErrorCode::from_byte(p[0]) {
+            NakErrorCodeRead::Read(error) => NakRead::Read(Nak { error }),
+            NakErrorCodeRead::Refused(e) => NakRead::Refused(e),
+        }
+    }
+
+    pub fn check(p: &[u8]) -> Guard
+        ensures { λ r. ⌜ r ≡ checkNak (now (p .entry)) ⌝ }
+    {
+        match Self::decode(p) {
+            NakRead::Read(_) => Guard::Pass,
+            NakRead::Refused(e) => Guard::Refused(e),
+        }
+    }
+
+    // What reading keeps of an accepted payload: all beside the error that has completion codes, else the error alone.
+    fn kept(p: &[u8]) -> &[u8]
+        ensures { λ r. ⌜ now r ≡ without nakLoss (now (p .entry)) ⌝ }
+    {
+        if p.len() == 0 {
+            return p;
+        }
+        if p[0] == NakErrorCode::UnableToProcessCommandRecord.as_byte() {
+            return p;
+        }
+        &p[0..1]
+    }
+
+    // The completion codes; nothing beside any other error and where reading refuses.
+    pub fn completion_codes(p: &[u8]) -> &[u8]
+        ensures { λ r. ⌜ now r ≡ nakTail (now (p .entry)) ⌝ }
+    {
+        tail_where(Self::check(p), Self::kept(p), Self::WIRE_LEN)
+    }
+
+    // Completion codes are written beside every error.
+    pub fn encode(self, completion_codes: &[u8], out: &mut [u8]) -> Written
+        ensures { λ r. ⌜ (r, now (out .exit)) ≡ writeNak self (now («completion_codes» .entry)) (now (out .entry)) ⌝ }
+    {
+        let error = self.error;
+        put_bytes(&[error.as_byte()], completion_codes, Self::CODE, out)
+    }
+
+    pub fn normalise(p: &[u8], out: &mut [u8]) -> Written
+        ensures { λ r. ⌜ (r, now (out .exit)) ≡ normalised nakForm (now (p .entry)) (now (out .entry)) ⌝ }
+    {
+        put_checked(Self::check(p), Self::kept(p), &[], Self::CODE, out)
+    }
+}

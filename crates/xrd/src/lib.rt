@@ -1,0 +1,72 @@
+// osdp_XRD (0xB1), extended-read reply: the mode of the request, and data of that mode.
+use payload_util::Guard;
+use payload_util::Refusal;
+use payload_util::Written;
+use payload_util::put_bytes;
+use payload_util::put_checked;
+use payload_util::require_at_least;
+use payload_util::tail_where;
+ghost use mathlib.Core.Path.{_≡_};
+ghost use Prim.Native.Nat.{_≤_};
+ghost use lib.ListN.{length};
+ghost use Rattle.payload_util.specs.Form.{normalised};
+ghost use Rattle.xrd.specs.Xrd.{checkXrd, xrdOf, xrdOutcome, readXrd, xrdTail, writeXrd, xrdForm};
+
+// The fixed field: XRW_MODE. The mode's reply is the tail.
+pub struct Xrd {
+    pub mode: u8,
+}
+
+pub enum XrdRead {
+    Read(Xrd),
+    Refused(Refusal),
+}
+
+impl Xrd {
+    pub const CODE: u8 = 0xB1;
+
+    pub const WIRE_LEN: usize = 1;
+
+    pub fn check(p: &[u8]) -> Guard
+        ensures { λ r. ⌜ r ≡ checkXrd (now (p .entry)) ⌝ }
+    {
+        require_at_least(p, Self::WIRE_LEN, Self::CODE)
+    }
+
+    pub fn decode(p: &[u8]) -> XrdRead
+        ensures { λ r. ⌜ xrdOutcome r ≡ readXrd (now (p .entry)) ⌝ }
+    {
+        let checked = Self::check(p);
+        let Guard::Pass = checked else {
+            return XrdRead::Refused(checked.refusal());
+        };
+        XrdRead::Read(Self::fields(p))
+    }
+
+    fn fields(p: &[u8]) -> Xrd
+        requires { ⌜ 1 ≤ length (now p) ⌝ }
+        ensures { λ r. ⌜ r ≡ xrdOf (now (p .entry)) ⌝ }
+    {
+        Xrd { mode: p[0] }
+    }
+
+    // The mode's reply: its sub-reply code and data; nothing where reading refuses.
+    pub fn payload(p: &[u8]) -> &[u8]
+        ensures { λ r. ⌜ now r ≡ xrdTail (now (p .entry)) ⌝ }
+    {
+        tail_where(Self::check(p), p, Self::WIRE_LEN)
+    }
+
+    pub fn encode(self, payload: &[u8], out: &mut [u8]) -> Written
+        ensures { λ r. ⌜ (r, now (out .exit)) ≡ writeXrd self (now (payload .entry)) (now (out .entry)) ⌝ }
+    {
+        put_bytes(&[self.mode], payload, Self::CODE, out)
+    }
+
+    // Reading loses nothing: an accepted payload is written as it came.
+    pub fn normalise(p: &[u8], out: &mut [u8]) -> Written
+        ensures { λ r. ⌜ (r, now (out .exit)) ≡ normalised xrdForm (now (p .entry)) (now (out .entry)) ⌝ }
+    {
+        put_checked(Self::check(p), p, &[], Self::CODE, out)
+    }
+}
