@@ -1,0 +1,208 @@
+// osdp_OUT (0x68), output control: a list of records, one for each output to drive.
+use lists::list_answer;
+use lists::put_at;
+use payload_util::Guard;
+use payload_util::Refusal;
+use payload_util::Written;
+use payload_util::high_byte;
+use payload_util::low_byte;
+use payload_util::put_checked;
+use payload_util::require_at_least;
+use payload_util::require_positive_multiple_of;
+use payload_util::require_present;
+use payload_util::tail_from;
+use payload_util::u16_of;
+ghost use mathlib.Core.Path.{_≡_};
+ghost use Prim.Native.Nat.{_*_, _/_, _≤_};
+ghost use lib.ListN.{length, drop};
+ghost use Rattle.payload_util.specs.Outcome.{guardOf};
+ghost use Rattle.payload_util.specs.Form.{normalised};
+ghost use Rattle.lists.specs.List.{putAt};
+ghost use Rattle.output.specs.Output.{outputByte, readOutputCode, outputCodeOutcome, checkOut, codesKnown, outOutcome, readOut, readOutAt, outBytes, outCode, writeOuts, outForm};
+
+// Table 14.
+pub enum OutputControlCode {
+    Nop,
+    PermanentOffAbortTimed,
+    PermanentOnAbortTimed,
+    PermanentOffAllowTimed,
+    PermanentOnAllowTimed,
+    TemporaryOnResume,
+    TemporaryOffResume,
+}
+
+pub enum OutputControlCodeRead {
+    Read(OutputControlCode),
+    Refused(Refusal),
+}
+
+impl OutputControlCode {
+    // Row 7.
+    pub fn from_byte(b: u8) -> OutputControlCodeRead
+        ensures { λ r. ⌜ outputCodeOutcome r ≡ readOutputCode b ⌝ }
+    {
+        match b {
+            0x00 => OutputControlCodeRead::Read(OutputControlCode::Nop),
+            0x01 => OutputControlCodeRead::Read(OutputControlCode::PermanentOffAbortTimed),
+            0x02 => OutputControlCodeRead::Read(OutputControlCode::PermanentOnAbortTimed),
+            0x03 => OutputControlCodeRead::Read(OutputControlCode::PermanentOffAllowTimed),
+            0x04 => OutputControlCodeRead::Read(OutputControlCode::PermanentOnAllowTimed),
+            0x05 => OutputControlCodeRead::Read(OutputControlCode::TemporaryOnResume),
+            0x06 => OutputControlCodeRead::Read(OutputControlCode::TemporaryOffResume),
+            _ => OutputControlCodeRead::Refused(Refusal {
+                number: 7,
+                code: OutputRecord::CODE,
+                first: 0,
+                second: 0,
+            }),
+        }
+    }
+
+    // Whether the byte is a code's.
+    fn check(b: u8) -> Guard
+        ensures { λ r. ⌜ r ≡ guardOf (readOutputCode b) ⌝ }
+    {
+        match OutputControlCode::from_byte(b) {
+            OutputControlCodeRead::Read(_) => Guard::Pass,
+            OutputControlCodeRead::Refused(e) => Guard::Refused(e),
+        }
+    }
+
+    pub fn as_byte(self) -> u8
+        ensures { λ r. ⌜ r ≡ outputByte self ⌝ }
+    {
+        match self {
+            OutputControlCode::Nop => 0x00,
+            OutputControlCode::PermanentOffAbortTimed => 0x01,
+            OutputControlCode::PermanentOnAbortTimed => 0x02,
+            OutputControlCode::PermanentOffAllowTimed => 0x03,
+            OutputControlCode::PermanentOnAllowTimed => 0x04,
+            OutputControlCode::TemporaryOnResume => 0x05,
+            OutputControlCode::TemporaryOffResume => 0x06,
+        }
+    }
+}
+
+// One output: its number, what it is to do, and for how long, in units of 100 ms.
+pub struct OutputRecord {
+    pub output: u8,
+    pub code: OutputControlCode,
+    pub timer: u16,
+}
+
+pub enum OutputRead {
+    Read(OutputRecord),
+    Refused(Refusal),
+}
+
+impl OutputRecord {
+    pub const CODE: u8 = 0x68;
+
+    pub const WIRE_LEN: usize = 4;
+
+    // The whole list: one unknown code refuses it.
+    pub fn check(p: &[u8]) -> Guard
+        ensures { λ r. ⌜ r ≡ checkOut (now (p .entry)) ⌝ }
+    {
+        let blocks = require_positive_multiple_of(p, Self::WIRE_LEN, Self::CODE);
+        let Guard::Pass = blocks else {
+            return blocks;
+        };
+        Self::check_codes(p)
+    }
+
+    // The codes of all records, in order.
+    fn check_codes(p: &[u8]) -> Guard
+        ensures { λ r. ⌜ r ≡ codesKnown (now (p .entry)) ⌝ }
+    {
+        let n = Self::count(p);
+        let mut k: usize = 0;
+        while k < n {
+            let known = OutputControlCode::check(p[Self::WIRE_LEN * k + 1]);
+            let Guard::Pass = known else {
+                return known;
+            };
+            k += 1;
+        }
+        Guard::Pass
+    }
+
+    // How many records a payload has.
+    pub fn count(p: &[u8]) -> usize
+        ensures { λ r. ⌜ r ≡ length (now (p .entry)) / 4 ⌝ }
+    {
+        p.len() / Self::WIRE_LEN
+    }
+
+    // Record k; the whole list is checked first.
+    pub fn decode(p: &[u8], k: usize) -> OutputRead
+        ensures { λ r. ⌜ outOutcome r ≡ readOut (now (p .entry)) k ⌝ }
+    {
+        let checked = Self::check(p);
+        let Guard::Pass = checked else {
+            return OutputRead::Refused(checked.refusal());
+        };
+        let present = require_present(k, Self::count(p), Self::CODE);
+        let Guard::Pass = present else {
+            return OutputRead::Refused(present.refusal());
+        };
+        Self::decode_at(p, Self::WIRE_LEN * k)
+    }
+
+    // The record whose bytes start at a place, wherever the place is: row 4 where fewer than 4 bytes are left from there, row 7.
+    pub fn decode_at(p: &[u8], at: usize) -> OutputRead
+        ensures { λ r. ⌜ outOutcome r ≡ readOutAt (drop at (now (p .entry))) ⌝ }
+    {
+        let part = tail_from(p, at);
+        let long = require_at_least(part, Self::WIRE_LEN, Self::CODE);
+        let Guard::Pass = long else {
+            return OutputRead::Refused(long.refusal());
+        };
+        match OutputControlCode::from_byte(part[1]) {
+            OutputControlCodeRead::Read(code) => OutputRead::Read(OutputRecord {
+                output: part[0],
+                code,
+                timer: u16_of(part[2], part[3]),
+            }),
+            OutputControlCodeRead::Refused(e) => OutputRead::Refused(e),
+        }
+    }
+
+    // The record's bytes into out from a place on; row 15 where they do not fit.
+    pub fn encode_at(self, out: &mut [u8], at: usize) -> Written
+        ensures { λ r. ⌜ (r, now (out .exit)) ≡ putAt outCode at (outBytes self) (now (out .entry)) ⌝ }
+    {
+        let code = self.code;
+        let bytes = [
+            self.output,
+            code.as_byte(),
+            low_byte(self.timer),
+            high_byte(self.timer),
+        ];
+        put_at(&bytes, Self::CODE, out, at)
+    }
+
+    // A lent list, record by record from the front of out: row 11 for an empty list, then row 15.
+    pub fn encode(records: &[OutputRecord], out: &mut [u8]) -> Written
+        ensures { λ r. ⌜ (r, now (out .exit)) ≡ writeOuts (now (records .entry)) (now (out .entry)) ⌝ }
+    {
+        let n = records.len();
+        let answer = list_answer(n, Self::WIRE_LEN, Self::CODE, out.len());
+        let Written::Wrote(_) = answer else {
+            return answer;
+        };
+        let mut k = 0;
+        while k < n {
+            records[k].encode_at(out, k * Self::WIRE_LEN);
+            k += 1;
+        }
+        answer
+    }
+
+    // Reading loses nothing: an accepted payload is written as it came.
+    pub fn normalise(p: &[u8], out: &mut [u8]) -> Written
+        ensures { λ r. ⌜ (r, now (out .exit)) ≡ normalised outForm (now (p .entry)) (now (out .entry)) ⌝ }
+    {
+        put_checked(Self::check(p), p, &[], Self::CODE, out)
+    }
+}
