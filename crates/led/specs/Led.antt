@@ -91,7 +91,3 @@ ledLimits highest =
 
 abbrev pub ledLoss : Loss
 ledLoss = aboveInEach 14 (ledLimits 7)
-
--- the first n records of a payload written over the front of a buffer
-unfoldable pub ledsOver : ℕ → List ℕ → List ℕ → List ℕ
-ledsOver n p out = flat ledBytes (each ledOf 14 n p) ++ drop (14 * n) out

@@ -1,4 +1,5 @@
 // osdp_LED (0x69), reader LED control: a list of records, each with a temporary and a permanent half.
+use lists::list_answer;
 use lists::put_at;
 use payload_util::Guard;
 use payload_util::Refusal;
@@ -7,16 +8,17 @@ use payload_util::high_byte;
 use payload_util::low_byte;
 use payload_util::require_positive_multiple_of;
 use payload_util::require_present;
-use payload_util::require_room;
 use payload_util::tail_from;
 use payload_util::u16_of;
 ghost use mathlib.Core.Path.{_≡_};
-ghost use Prim.Native.Nat.{_+_, _*_, _/_, _≤_};
-ghost use lib.ListN.{length};
+ghost use mathlib.Core.List.{_++_};
+ghost use Prim.Native.Nat.{_*_, _/_, _≤_};
+ghost use lib.ListN.{length, drop};
+ghost use Rattle.payload_util.specs.Bytes.{flat};
 ghost use Rattle.payload_util.specs.Form.{normalised};
 ghost use Rattle.lists.specs.List.{putAt};
 ghost use Rattle.led.specs.LedColor.{colorByte, colorOf};
-ghost use Rattle.led.specs.Led.{temporaryOf, permanentOf, ledOf, ledBytes, ledCode, checkLed, ledOutcome, readLed, stepLed, ledForm, ledsOver};
+ghost use Rattle.led.specs.Led.{temporaryOf, permanentOf, ledOf, ledBytes, ledCode, checkLed, ledOutcome, readLed, ledRecords, stepLed, writeLeds, ledForm};
 
 // Table 18.
 pub enum LedColor {
@@ -267,15 +269,32 @@ impl LedRecord {
         put_at(&bytes, Self::CODE, out, at)
     }
 
+    // A lent list, record by record from the front of out: row 11 for an empty list, then row 15.
+    pub fn encode(records: &[LedRecord], out: &mut [u8]) -> Written
+        ensures { λ r. ⌜ (r, now (out .exit)) ≡ writeLeds (now (records .entry)) (now (out .entry)) ⌝ }
+    {
+        let n = records.len();
+        let answer = list_answer(n, Self::WIRE_LEN, Self::CODE, out.len());
+        let Written::Wrote(_) = answer else {
+            return answer;
+        };
+        let mut k = 0;
+        while k < n {
+            records[k].encode_at(out, k * Self::WIRE_LEN);
+            k += 1;
+        }
+        answer
+    }
+
     // Every record of a payload, read and written again at its place.
     fn rewrite(p: &[u8], out: &mut [u8])
-        requires { ⌜ length (now p) ≤ length (now out) ⌝ }
-        ensures { λ _. ⌜ now (out .exit) ≡ ledsOver (length (now (p .entry)) / 14) (now (p .entry)) (now (out .entry)) ⌝ }
+        requires { ⌜ length (now p) / 14 * 14 ≤ length (now out) ⌝ }
+        ensures { λ _. ⌜ now (out .exit) ≡ flat ledBytes (ledRecords (now (p .entry))) ++ drop (length (now (p .entry)) / 14 * 14) (now (out .entry)) ⌝ }
     {
         let n = Self::count(p);
         let mut k: usize = 0;
         while k < n {
-            let at = Self::WIRE_LEN * k;
+            let at = k * Self::WIRE_LEN;
             let record = Self::fields(tail_from(p, at));
             record.encode_at(out, at);
             k += 1;
@@ -290,11 +309,11 @@ impl LedRecord {
         let Guard::Pass = checked else {
             return Written::Refused(checked.refusal());
         };
-        let fits = require_room(p.len(), Self::CODE, out.len());
-        let Guard::Pass = fits else {
-            return Written::Refused(fits.refusal());
+        let answer = list_answer(Self::count(p), Self::WIRE_LEN, Self::CODE, out.len());
+        let Written::Wrote(_) = answer else {
+            return answer;
         };
         Self::rewrite(p, out);
-        Written::Wrote(p.len())
+        answer
     }
 }

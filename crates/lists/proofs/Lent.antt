@@ -6,8 +6,8 @@
 --     while k < n { records[k].PUT(out, k * SIZE); k += 1; }
 --     answer
 -- `function` is its MIR over the kind and PUT's key, `signature` and `clauses` its contract, `put-signature` and `put-clauses` PUT's. At a kind
--- that is written out they compute to what `rattle check` makes of the source, so a kind's proof cites `meets` with the theorems of PUT and of
--- `list_answer`, and says no more.
+-- that is written out they compute to what `rattle check` makes of the source, so a kind's proof cites `lent-spec` with PUT's theorem, and says no
+-- more.
 --     With, At k    the context before the loop, and at its head after k turns
 --     leaves        the answer is returned, and the locals are freed
 --     more, ends    a turn that writes a record, and the turn that leaves the loop
@@ -18,15 +18,16 @@ use Rattle.lists.proofs.Kit.{ !, Atoms, Calls, Clauses, Contract, Decla
 use Rattle.lists.proofs.Kit.{Lft, List, Loops, Meets, Memory, MutSlice, Name, RattleType, RefT, Room, Routine, SProp, Share, ShrSlice}
 use Rattle.lists.proofs.Kit.{Signature, SliceRefMutOf, Slot, Spec, Stays, Tables, Triple, Ty, URA, Val, WT, Walks, WpFn, WpFn-mono, [], _$_}
 use Rattle.lists.proofs.Kit.{_*_, _+_, _-_, _<_, _^_, _∙_, _∵_, _∷_, _≡_, _≤_, _⊛_, addr, addrOf, agg, aggregate, alloc0, alloc1, and-then}
-use Rattle.lists.proofs.Kit.{ap, arith, arr-parts, assign, assigns, at-once, await, by, call, calls-at, closing, copy, deref, done, drop, emp}
-use Rattle.lists.proofs.Kit.{ends-at, ensured, ent, enter, erased, ex, exE, fact, fat, field, finally, fjoin, fld, flft, fmOf, forget, frame}
-use Rattle.lists.proofs.Kit.{free0, free1, from, fsplit, fst∗, ftrue, fullShare, goes-dropped, hasTy, heard, hop, id⊢, imm, init, join, keep}
-use Rattle.lists.proofs.Kit.{land, lasts, later, length, lft-end, lft-new, load, local, lone, look, look-in, ltb, ltb→lt, mem, move}
-use Rattle.lists.proofs.Kit.{mul-le-mul-right, mut, mut-slice-tells, named, no-more, nothing, now, of-opd, onEntry, only, owned, owns}
-use Rattle.lists.proofs.Kit.{params1, pass0, pass1, peeks, pick, place, plain, pointee, qed, raw, refl, return, rewrite, row, rvOpd, says}
-use Rattle.lists.proofs.Kit.{sem, sep, seq, shares, shows, shr-slice-tells, slice-vals, sliceTy, sliceVal, snd∗, some, split, stay-dropped}
-use Rattle.lists.proofs.Kit.{stop, sub, subst, suc, suffices, sym, tripleOf, tyInt, tyRef, u8, uint-makes, updating, use1, use2, use3, usize}
-use Rattle.lists.proofs.Kit.{valueLocal, via, vint, vptr, w64, w8, walk-meets, walkOf, walked, whole, yes, ‵, ℕ, ⋆}
+use Rattle.lists.proofs.Kit.{ap, arith, arr-parts, assign, assigns, at-once, await, by, call, calls-at, cited, closing, copy, deref, done}
+use Rattle.lists.proofs.Kit.{drop, emp, ends-at, ensured, ent, enter, entered, erased, ex, exE, fact, fat, field, finally, fjoin, fld, flft}
+use Rattle.lists.proofs.Kit.{fmOf, forget, frame, free0, free1, from, fsplit, fst∗, ftrue, fullShare, givenOf, goes-dropped, hasTy, heard}
+use Rattle.lists.proofs.Kit.{hop, id⊢, imm, init, join, keep, land, lasts, later, length, lft-end, lft-new, load, local, lone, look, look-in}
+use Rattle.lists.proofs.Kit.{ltb, ltb→lt, mem, move, mul-le-mul-right, mut, mut-slice-tells, named, no-more, nothing, now, of-opd, onEntry}
+use Rattle.lists.proofs.Kit.{only, owned, owns, params1, pass0, pass1, peeks, pick, place, plain, pointee, qed, raw, refl, return, rewrite}
+use Rattle.lists.proofs.Kit.{row, rvOpd, says, sem, sep, seq, shares, shows, shr-slice-tells, slice-vals, sliceTy, sliceVal, snd∗, some}
+use Rattle.lists.proofs.Kit.{split, stay-dropped, stop, sub, subst, suc, suffices, sym, tables, tablesOf, tripleOf, tyInt, tyRef, u8}
+use Rattle.lists.proofs.Kit.{uint-makes, updating, use1, use2, use3, usize, valueLocal, via, vint, vptr, w64, w8, walk-meets, walkOf, walked}
+use Rattle.lists.proofs.Kit.{whole, yes, ‵, ℕ, ⋆}
 use mathlib.Core.Bool.{Bool, true, false}
 use mathlib.Core.WellFounded.{InvImage·wf}
 use native.Mathlib.Nat.{suc-mul}
@@ -40,7 +41,10 @@ use mir.Syntax.{offset}
 use mir.Val.{vbool}
 use base.Logic.{guard, exI, guardI}
 use base.Fml.{froom, fdies, fshr-bor}
-use prog.Wp.{Out, returns as returnsᴼ, Env, Wp, afterSeq, afterBlock, afterTurn, atReturn}
+use contract.Running.{GhostRules, Running}
+use prog.Model.{Model}
+use prog.Routine.{Env as Meaning}
+use prog.Wp.{Closed, Out, returns as returnsᴼ, Env, Wp, afterSeq, afterBlock, afterTurn, atReturn}
 use types.Kit as Steps
 use types.Kit.{Item, Sq, runs, post, anyQ, atRet, use0, show}
 use types.Match.{vrt, look-tag}
@@ -62,7 +66,9 @@ use Rattle.lists.specs.List.{listAnswer, putAt}
 use Rattle.lists.proofs.State as St
 use Rattle.lists.proofs.Again.{LentAgain, lends-again, comes-back}
 use Rattle.lists.proofs.list_answer as list-answer
+use Rattle.lists.proofs.list_answer.Symbol as answer-def
 use Rattle.lists.proofs.list_answer.Symbol.{name as #list-answer}
+use Rattle.lists.proofs.list_answer.Met as answer-thm
 
 abbrev word : Ty
 word = tyInt w64
@@ -614,3 +620,15 @@ module _ {M : Type 1} (𝓤 : URA M) (H : Heap 𝓤) (A : Atoms 𝓤) (W : Given
       walk-meets 𝓤 H A (ended K) (stayed K) W
       (goes-dropped 𝓤 H A W 2 (records K) yes (λ κs x f. refl), (goes-slice 𝓤 H A W 2 1 tt (plain (λ _. u8)), tt)) (clauses K 𝓤) Runs
       (WpFn-mono 𝓤 H (W .laws) 𝓣 (function K put)) walks
+
+-- a kind's writer, where its code's calls mean γ
+module _ {M : Type 1} (𝓤 : URA M) (H : Heap 𝓤) (𝓜 : Model 𝓤 H) (𝓖 : GhostRules 𝓤 H) (𝓡 : Running 𝓤 H 𝓜) (γ : Meaning) (K : Kind) where
+  pub lent-spec : (key put : Name) (r : Routine) → γ put ≡ r → Triple 𝓤 (𝓡 .run r) (Put K 𝓤 H (𝓖 .A)) → γ #list-answer ≡ answer-def.routine
+      → Closed 𝓤 H (tables 𝓤 H 𝓜 𝓡 γ .C) (tables 𝓤 H 𝓜 𝓡 γ .Λ) key (function K put)
+      → Triple 𝓤 (tables 𝓤 H 𝓜 𝓡 γ .C key) (tripleOf 𝓤 H (𝓖 .A) (signature K) (spec K 𝓤 H (𝓖 .A)))
+  unfolding tablesOf
+  lent-spec key put r calls-put met calls-answer closed =
+      entered 𝓤 H (tripleOf 𝓤 H (𝓖 .A) (signature K) (spec K 𝓤 H (𝓖 .A))) (tables 𝓤 H 𝓜 𝓡 γ .C) (tables 𝓤 H 𝓜 𝓡 γ .Λ) key (function K put) closed
+      (meets 𝓤 H (𝓖 .A) (givenOf 𝓤 H 𝓜 𝓖) (𝓜 .mem) (𝓡 .run) K put (tablesOf 𝓤 H 𝓜 (tables 𝓤 H 𝓜 𝓡 γ))
+      (cited 𝓤 H (Put K 𝓤 H (𝓖 .A)) 𝓜 𝓡 γ put r calls-put met)
+      (cited 𝓤 H (Answer 𝓤 H (𝓖 .A) (𝓜 .mem) (𝓡 .run)) 𝓜 𝓡 γ #list-answer answer-def.routine calls-answer (answer-thm.met 𝓤 H 𝓜 𝓖 𝓡)))

@@ -1,6 +1,6 @@
 -- A buffer into which bytes are written at a place, and one into which a list's records are written one after the other.
 -- Assumes nothing.
-use mathlib.Core.Path.{_≡_, refl, sym, _∙_, ap}
+use mathlib.Core.Path.{_≡_, refl, sym, _∙_, ap, ap₂}
 use mathlib.Core.Bool.{Bool, true, false}
 use mathlib.Core.List.{List, [], _∷_, _++_, append-assoc, append-nil}
 use Prim.Native.Nat.{ℕ, suc, _+_, _*_, _-_, _≤_, _<_}
@@ -18,10 +18,9 @@ use Rattle.payload_util.specs.declared.Guard.the-variants.{Pass, Refused as Sto
 use Rattle.payload_util.specs.declared.Refusal.{Refusal}
 use Rattle.payload_util.specs.declared.Written.{Written}
 use Rattle.payload_util.specs.declared.Written.the-variants.{Wrote, Refused}
-use Rattle.payload_util.proofs.Guards.{room-pass, also-pass}
+use Rattle.payload_util.proofs.Guards.{room-pass, pass-room, also-pass}
 use Rattle.payload_util.proofs.Parts.{part-to-end}
 use Rattle.lists.specs.List.{answer, listAnswer, leftAt, putAt}
-use Rattle.lists.proofs.Sizes.{pass-room}
 
 -- bytes that were put at the front of the part that starts at a place; e is that part afterwards
 module _ (code at : ℕ) (bytes out e : List ℕ) (r : Written) where
@@ -125,3 +124,26 @@ module _ {X : Type 0} (bytes : X → List ℕ) (size : ℕ) (fixed : (x : X) →
             let fits = room-pass code (length (flat bytes xs)) (length o) (also-pass (notEmpty code xs) _ e .1) in
             simp (length-append, length-drop) (omega arith)
         go (Stopped r) e = refl
+
+    -- what a function shows that takes the answer first, as `list_answer` gives it, and then writes the records
+    module _ {a : Written} (q : a ≡ listAnswer (length xs) size code (length o)) where
+      known : Facts a
+      known = rw q facts
+
+      refused-end : (y : Written) {e : Refusal} → Facts y → y ≡ Refused e → o ≡ end
+      refused-end (Refused f) (refuses h) p = h
+      refused-end (Wrote n) (goes-on room h) p = let z : _≡_ {A = ℕ} 0 1 = cc in absurd (omega arith)
+
+      went-on : (y : Written) {n : ℕ} → Facts y → y ≡ Wrote n → (length xs * size ≤ length o) × (state (length xs) ≡ end)
+      went-on (Refused f) (refuses h) p = let z : _≡_ {A = ℕ} 0 1 = cc in absurd (omega arith)
+      went-on (Wrote n) (goes-on room h) p = (room, h)
+
+      pub refused-is : {e : Refusal} → a ≡ Refused e → _≡_ {A = Left} (a, o) (write (notEmpty code xs) code (flat bytes xs) o)
+      refused-is p = ap₂ {C = Left} (λ y l. (y, l)) q (refused-end a known p) ∙ answers
+
+      pub records-fit : {n : ℕ} → a ≡ Wrote n → length xs * size ≤ length o
+      records-fit p = went-on a known p .0
+
+      pub written-is : {n : ℕ} → a ≡ Wrote n
+          → _≡_ {A = Left} (a, flat bytes xs ++ drop (length xs * size) o) (write (notEmpty code xs) code (flat bytes xs) o)
+      written-is p = ap₂ {C = Left} (λ y l. (y, l)) q (rw (take-length xs) at (went-on a known p .1)) ∙ answers

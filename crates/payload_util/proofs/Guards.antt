@@ -108,6 +108,10 @@ passed e p = cc
 pub stopped : {f g : Guard} {e : Refusal} (h : Guard) → f ≡ g → f ≡ Refused e → f ≡ (g also h)
 stopped h q p = p ∙ simp (sym q ∙ p)
 
+-- the first guard passes, and x answers the rest
+pub skipped : {x g h : Guard} → g ≡ Pass → x ≡ h → x ≡ (g also h)
+skipped p q = q ∙ simp p
+
 -- r is the refusal that was taken out of f
 pub refused : {f g : Guard} {e r : Refusal} → f ≡ g → f ≡ Refused e → r ≡ refusalOf f → g ≡ Refused r
 refused q p h = sym q ∙ p ∙ ap Refused (ap refusalOf (sym p) ∙ sym h)

@@ -1,42 +1,27 @@
--- `LedRecord::normalise` meets its contract, by LED's law. Assumes nothing.
-use mathlib.Core.Path.{_≡_, sym, ap, _∙_}
+-- `LedRecord::normalise` meets its contract. Assumes nothing.
+use mathlib.Core.Path.{_≡_, ap, _∙_}
 use mathlib.Core.List.{List}
-use Prim.Native.Nat.{ℕ}
-use native.Mathlib.Omega.{arith}
+use Prim.Native.Nat.{ℕ, _/_}
 use borrow.Author.Needs.{needs}
-use denote.Ref.{now}
 use lib.ListN.{length}
-use Rattle.payload_util.specs.Bytes.{Bytes}
+use denote.Ref.{now}
+use Rattle.payload_util.specs.Writing.{Left}
 use Rattle.payload_util.specs.declared.Guard.the-variants.{Pass}
-use Rattle.payload_util.specs.declared.Written.the-variants.{Wrote}
-use Rattle.payload_util.proofs.Guards.{passed, refused, room-pass}
-use Rattle.led.specs.Led.{checkLed}
-use Rattle.led.proofs.Over.{normal-is, over-all}
+use Rattle.payload_util.proofs.Guards.{passed, refused}
+use Rattle.lists.specs.List.{listAnswer}
+use Rattle.led.specs.Led.{ledCode, checkLed}
+use Rattle.led.proofs.Rewritten.{refused-is, records-fit, written-is}
 use Rattle.led.proofs.LedRecord.normalise.Statement.{statement}
 use Rattle.led.proofs.LedRecord.normalise.Tie as tie
-
-bytes : (c : tie.After-shared-slice-known) → Bytes (now (c .before .args .p))
-bytes c = λ i. omega (arith, c .shared-slice-known .given i)
 
 pass : (c : tie.After-enum-told) → checkLed (now (c .before .before .before .before .before .args .p)) ≡ Pass
 pass c = passed (c .before .before .check .ensures) (c .enum-told .given .1)
 
-returns-2 : tie.Need-returns-2
-returns-2 c =
-    let told = c .before .before .before .before in
-    let known = told .before .before .before .before in
-    sym (normal-is (known .before .args .p .now) (known .before .args .out .now) (bytes known) (pass told) _
-    (refused (c .before .before .before .require-room .ensures) (c .before .enum-told4 .given .1) (c .refusal2 .ensures)))
-
-returns-3 : tie.Need-returns-3
-returns-3 c =
-    let told3 = c .before .before .before .before in
-    let told = told3 .before .before .before in
-    let known = told .before .before .before .before in
-    let p : List ℕ = known .before .args .p .now in
-    let out : List ℕ = known .before .args .out .now in
-    ap (λ (o : List ℕ). (Wrote (length p), o)) (c .before .before .rewrite .ensures) ∙ over-all p out (bytes known) (pass told)
-    ∙ sym (normal-is p out (bytes known) (pass told) Pass (passed (told3 .before .before .require-room .ensures) (told3 .enum-told3 .given .1)))
+-- the count is the payload's
+said : (c : tie.After-list-answer) →
+    let a = c .before .before .before .before .before .before .before .args in
+    c .list-answer .result ≡ listAnswer (length (now (a .p)) / 14) 14 ledCode (length (now (a .out)))
+said c = c .list-answer .ensures ∙ rw (c .before .count .ensures)
 
 pub normalise-spec : {M : Type 1} → statement M
 normalise-spec =
@@ -48,10 +33,17 @@ normalise-spec =
     (λ c κs. search needs)
     (λ c. simp (refused (c .before .before .before .check .ensures) (c .before .enum-told2 .given .1) (c .refusal .ensures)))
     (λ c κs. search needs)
-    (λ c. search needs)
-    (λ c. search needs)
     (λ c κs. search needs)
-    returns-2
-    (λ c κs. room-pass _ _ _ (passed (c .before .before .before .require-room .ensures) (c .before .enum-told3 .given .1)))
     (λ c. search needs)
-    returns-3)
+    (λ c. search needs)
+    (λ c. refused-is _ _ (pass (c .before .before .before .before)) (said (c .before .before)) (c .enum-told4 .given .1))
+    (λ c κs.
+    let asked = c .before .before .before in
+    let a = asked .before .before .before .before .before .before .before .args in
+    records-fit _ (now (a .out)) (pass (asked .before .before)) (said asked) (c .before .enum-told3 .given .1))
+    (λ c. search needs)
+    (λ c.
+    let told = c .before .before .before .before in
+    let asked = told .before .before in
+    ap (λ (o : List ℕ). (asked .list-answer .result, o)) (c .before .before .rewrite .ensures)
+    ∙ written-is _ _ (pass (asked .before .before)) (said asked) (told .enum-told3 .given .1)))
