@@ -1,0 +1,195 @@
+// The stream of cases. One space holds the bytes that were read, up to BLOCKS, and after them the input and the output of a case.
+use crate::case::Case;
+ghost use Prim.Native.Nat.{_<_, _≤_, _+_};
+ghost use lib.ListN.{length};
+
+pub const BLOCKS: usize = 262144;
+
+// Classes that are no case: the record that ends a stream, whose argument is the number of cases before it; the beginning of a case, or
+// nothing; and what cannot be a case.
+pub const END: u8 = 255;
+
+pub const SHORT: u8 = 254;
+
+pub const BROKEN: u8 = 253;
+
+// No index.
+const PAST: usize = 18446744073709551615;
+
+// A number of the stream, and the index after it.
+struct Number {
+    value: usize,
+    next: usize,
+}
+
+fn wide(b: u8) -> usize
+    ensures { λ r. ⌜ r < 256 ⌝ }
+{
+    b as usize
+}
+
+// The number of four bytes, low byte first.
+fn quad(s: &[u8], at: usize) -> usize
+    requires { ⌜ at + 4 ≤ length (now s) ⌝ }
+    ensures { λ r. ⌜ r < 4294967296 ⌝ }
+{
+    wide(s[at]) + 256 * wide(s[at + 1]) + 65536 * wide(s[at + 2]) + 16777216 * wide(s[at + 3])
+}
+
+// One byte below 255, or 255 and then eight bytes, low byte first. Where the stream ends before, no index is after it.
+fn read_number(s: &[u8], at: usize) -> Number {
+    if s.len() <= at {
+        return Number { value: 0, next: PAST };
+    }
+    let b = s[at];
+    if b < 255 {
+        return Number { value: wide(b), next: at + 1 };
+    }
+    if s.len() - at < 9 {
+        return Number { value: 0, next: PAST };
+    }
+    Number { value: quad(s, at + 1) + 4294967296 * quad(s, at + 5), next: at + 9 }
+}
+
+// The sum of two indices or lengths, and PAST where there is none.
+fn sum(a: usize, b: usize) -> usize {
+    if a < PAST - b { a + b } else { PAST }
+}
+
+// A case, and where its bytes lie: the index of its stored input, how many bytes of its input and of its output are stored, how many
+// are filled up, and with which byte.
+struct Head {
+    case: Case,
+    at: usize,
+    stored: usize,
+    filled: usize,
+    fill: u8,
+    stored_out: usize,
+    filled_out: usize,
+    fill_out: u8,
+}
+
+fn read_head(s: &[u8]) -> Head
+    requires { ⌜ 5 ≤ length (now s) ⌝ }
+{
+    let argument = read_number(s, 5);
+    let first = read_number(s, argument.next);
+    let second = read_number(s, first.next);
+    let stored = read_number(s, second.next);
+    let filled = read_number(s, stored.next);
+    let stored_out = read_number(s, filled.next);
+    let filled_out = read_number(s, stored_out.next);
+    let case = Case {
+        class: s[0],
+        code: s[1],
+        row: s[2],
+        argument: argument.value,
+        first: first.value,
+        second: second.value,
+        mid: 0,
+        end: 0,
+        size: sum(filled_out.next, sum(stored.value, stored_out.value)),
+    };
+    Head {
+        case,
+        at: filled_out.next,
+        stored: stored.value,
+        filled: filled.value,
+        fill: s[3],
+        stored_out: stored_out.value,
+        filled_out: filled_out.value,
+        fill_out: s[4],
+    }
+}
+
+// Takes the case that stands between two indices of the space, and puts its input and its output after BLOCKS.
+pub fn take(space: &mut [u8], from: usize, to: usize) -> Case {
+    if to < from {
+        return Case::none(BROKEN);
+    }
+    if space.len() < to {
+        return Case::none(BROKEN);
+    }
+    if to - from < 5 {
+        return Case::none(SHORT);
+    }
+    let h = read_head(&space[from..to]);
+    let c = h.case;
+    if to - from < c.size {
+        return Case::none(SHORT);
+    }
+    unpack(space, sum(from, h.at), h)
+}
+
+fn unpack(space: &mut [u8], at: usize, h: Head) -> Case {
+    let mid = sum(BLOCKS, sum(h.stored, h.filled));
+    let end = sum(mid, sum(h.stored_out, h.filled_out));
+    if !block(&mut *space, at, h.stored, h.fill, BLOCKS, mid) {
+        return Case::none(BROKEN);
+    }
+    if !block(space, sum(at, h.stored), h.stored_out, h.fill_out, mid, end) {
+        return Case::none(BROKEN);
+    }
+    let mut c = h.case;
+    c.mid = mid;
+    c.end = end;
+    c
+}
+
+// Puts the bytes stored at an index between two others, and fills up. False where they do not fit.
+fn block(space: &mut [u8], at: usize, stored: usize, fill: u8, from: usize, to: usize) -> bool {
+    move_bytes(&mut *space, at, from, stored) && put(space, sum(from, stored), to, fill)
+}
+
+// Moves n bytes from one index to another, the first byte first.
+fn move_bytes(space: &mut [u8], from: usize, to: usize, n: usize) -> bool {
+    if space.len() < n {
+        return false;
+    }
+    let most = space.len() - n;
+    if most < from {
+        return false;
+    }
+    if most < to {
+        return false;
+    }
+    let mut i: usize = 0;
+    while i < n {
+        let b = space[from + i];
+        space[to + i] = b;
+        i += 1;
+    }
+    true
+}
+
+// Puts b at every index from one up to another.
+pub fn put(into: &mut [u8], from: usize, to: usize, b: u8) -> bool {
+    if into.len() < to {
+        return false;
+    }
+    let mut i = from;
+    while i < to {
+        into[i] = b;
+        i += 1;
+    }
+    true
+}
+
+// Moves the unread bytes, which stand between two indices, to the front, reads once behind them, and answers how many are unread.
+pub fn refill(space: &mut [u8], from: usize, to: usize) -> usize {
+    if to < from {
+        return 0;
+    }
+    let n = to - from;
+    if !move_bytes(&mut *space, from, 0, n) {
+        return 0;
+    }
+    if BLOCKS <= n {
+        return n;
+    }
+    if space.len() < BLOCKS {
+        return n;
+    }
+    let got = libc::read(libc::STDIN_FILENO, &mut space[n..BLOCKS]);
+    n + io::count(got, &space[n..BLOCKS])
+}

@@ -1,0 +1,217 @@
+//! Cases, and the original's answers to them.
+use crate::{model, records};
+use osdp::command::{self as cmd, Command, CommandCode};
+use osdp::error::Error;
+use osdp::guards;
+use osdp::reply::{self as rep, Reply, ReplyCode};
+use std::panic::{catch_unwind, AssertUnwindSafe};
+
+/// A row of document 01's refusal table.
+#[derive(Clone, Copy)]
+pub struct Refusal {
+    pub row: u8,
+    pub code: u8,
+    pub first: usize,
+    pub second: usize,
+}
+
+pub enum Case {
+    /// One of TABLES, and a byte to look up.
+    Table(usize, u8),
+    /// One of GUARDS, its number, code byte and data.
+    Guard(usize, usize, u8, Vec<u8>),
+    /// A payload, by all calls for it, or by those of its kind alone, which know no longest payload.
+    Payload { is_reply: bool, of_kind: bool, code: u8, payload: Vec<u8> },
+    /// A record made by hand, to be written.
+    Write { is_reply: bool, code: u8, fixed: Vec<u8>, tail: Vec<u8> },
+    Bits(u16, Vec<u8>),
+    /// Record k of a list.
+    Record { code: u8, k: usize, payload: Vec<u8> },
+    /// A walker that is started, or one that stands at a place.
+    Walk { place: Option<usize>, payload: Vec<u8> },
+    /// The OUT record that starts at a place.
+    ReadAt { place: usize, payload: Vec<u8> },
+    /// One record of a list, to be written at a place of a buffer of so many bytes.
+    WriteAt { code: u8, place: usize, room: usize, fixed: Vec<u8> },
+}
+
+pub const TABLES: [&str; 8] =
+    ["CommandCode", "ReplyCode", "LedColor", "BioType", "BioFormat", "OutputControlCode", "TextCommand", "NakErrorCode"];
+pub const GUARDS: [&str; 4] = ["exact", "least", "positive", "multiple"];
+
+pub enum Answer {
+    Refused(Refusal),
+    Passed,
+    /// The byte of a code, or the bytes written or handed out.
+    Gave(Vec<u8>),
+    /// A payload that is accepted: fields, tail, the record written again, and what strict refuses.
+    Read { parts: records::Parts, wrote: Vec<u8>, strict: Option<Refusal> },
+}
+
+/// Rows of the refusal table for the reason strings of the original.
+const REASONS: [(u8, &str); 18] = [
+    (6, "TEXT length field disagrees with payload"),
+    (6, "BIOMATCH length disagrees with payload"),
+    (6, "BIOREADR length disagrees with payload"),
+    (6, "FILETRANSFER fragment length disagrees with payload"),
+    (6, "RAW bit count does not match payload length"),
+    (6, "FMT char_count disagrees with payload"),
+    (7, "unknown output control code"),
+    (8, "TEXT must be printable ASCII"),
+    (9, "unknown TEXT command code"),
+    (10, "unknown NAK error code"),
+    (11, "LED requires at least one record"),
+    (11, "OUT requires at least one record"),
+    (12, "TEXT length exceeds 255 bytes"),
+    (12, "BIOMATCH template > 65535 bytes"),
+    (12, "BIOREADR data > 65535 bytes"),
+    (12, "FILETRANSFER fragment > 65535 bytes"),
+    (13, "RAW bit count does not match byte length"),
+    (13, "FMT char_count disagrees with chars"),
+];
+
+fn refusal(e: Error) -> Refusal {
+    let (row, code, first, second) = match e {
+        Error::UnknownCommand(c) => (1, c, 0, 0),
+        Error::UnknownReply(c) => (2, c, 0, 0),
+        Error::PayloadLength { code, expected, got } => (3, code, expected, got),
+        Error::PayloadTooShort { code, min, got } => (4, code, min, got),
+        Error::PayloadNotMultiple { code, block, got } => (5, code, block, got),
+        Error::MalformedPayload { code, reason } => match REASONS.iter().find(|r| r.1 == reason) {
+            Some(&(row, _)) => (row, code, 0, 0),
+            None => panic!("no row for the reason {reason:?}"),
+        },
+        other => panic!("no row for {other:?}"),
+    };
+    Refusal { row, code, first, second }
+}
+
+fn gave(r: Result<Vec<u8>, Error>) -> Answer {
+    match r {
+        Ok(bytes) => Answer::Gave(bytes),
+        Err(e) => Answer::Refused(refusal(e)),
+    }
+}
+
+fn table(which: usize, b: u8) -> Answer {
+    gave(match TABLES[which] {
+        "CommandCode" => CommandCode::from_byte(b).map(|c| vec![c.as_byte()]),
+        "ReplyCode" => ReplyCode::from_byte(b).map(|c| vec![c.as_byte()]),
+        "LedColor" => Ok(vec![cmd::LedColor::from_byte(b).as_byte()]),
+        "BioType" => Ok(vec![cmd::BioType::from_byte(b).as_byte()]),
+        "BioFormat" => Ok(vec![cmd::BioFormat::from_byte(b).as_byte()]),
+        "OutputControlCode" => cmd::OutputControlCode::from_byte(b).map(|c| vec![c.as_byte()]),
+        "TextCommand" => cmd::TextCommand::from_byte(b).map(|c| vec![c.as_byte()]),
+        _ => rep::NakErrorCode::from_byte(b).map(|c| vec![c.as_byte()]),
+    })
+}
+
+fn guard(which: usize, n: usize, code: u8, data: &[u8]) -> Answer {
+    let call = [guards::require_exact_len, guards::require_at_least, guards::require_positive_multiple_of, guards::require_multiple_of][which];
+    match catch_unwind(AssertUnwindSafe(|| call(data, n, code))) {
+        Ok(Ok(())) => Answer::Passed,
+        Ok(Err(e)) => Answer::Refused(refusal(e)),
+        Err(_) if n == 0 => Answer::Refused(model::block_of_zero(code, data.len())),
+        Err(_) => panic!("a guard panicked"),
+    }
+}
+
+fn read(code: u8, payload: &[u8], parts: Option<records::Parts>, again: Result<Vec<u8>, Error>) -> Answer {
+    let wrote = again.unwrap_or_else(|e| panic!("what was read is not written: {e:?}"));
+    Answer::Read { parts: parts.expect("a carried kind"), wrote, strict: model::strict(code, payload) }
+}
+
+fn command(of_kind: bool, code: u8, payload: &[u8]) -> Answer {
+    let c = match CommandCode::from_byte(code) {
+        Ok(c) => c,
+        Err(e) => return Answer::Refused(refusal(e)),
+    };
+    if let (false, Some(e)) = (of_kind, model::by_code(model::COMMANDS.contains(&code), code, payload.len())) {
+        return Answer::Refused(e);
+    }
+    match Command::decode(c, payload) {
+        Err(e) => Answer::Refused(refusal(e)),
+        Ok(r) => read(code, payload, records::of_command(&r), r.encode_data()),
+    }
+}
+
+fn reply(of_kind: bool, code: u8, payload: &[u8]) -> Answer {
+    let c = match ReplyCode::from_byte(code) {
+        Ok(c) => c,
+        Err(e) => return Answer::Refused(refusal(e)),
+    };
+    if let (false, Some(e)) = (of_kind, model::by_code(model::REPLIES.contains(&code), code, payload.len())) {
+        return Answer::Refused(e);
+    }
+    match Reply::decode(c, payload) {
+        Err(e) => Answer::Refused(refusal(e)),
+        Ok(r) => read(code, payload, records::of_reply(&r), r.encode_data()),
+    }
+}
+
+fn write(is_reply: bool, code: u8, fixed: &[u8], tail: &[u8]) -> Answer {
+    gave(if is_reply {
+        records::to_reply(code, fixed, tail.to_vec()).expect("a record of the original").encode_data()
+    } else {
+        records::to_command(code, fixed, tail.to_vec()).expect("a record of the original").encode_data()
+    })
+}
+
+fn picked<T>(code: u8, list: Result<Vec<T>, Error>, k: usize, bytes: fn(&T) -> Vec<u8>) -> Answer {
+    match list {
+        Err(e) => Answer::Refused(refusal(e)),
+        Ok(records) => match model::record(code, &records, k) {
+            Ok(r) => Answer::Gave(bytes(r)),
+            Err(e) => Answer::Refused(e),
+        },
+    }
+}
+
+fn record(code: u8, k: usize, payload: &[u8]) -> Answer {
+    match code {
+        0x69 => picked(code, cmd::LedControl::decode(payload).map(|l| l.records), k, records::led_bytes),
+        0x68 => picked(code, cmd::OutputControl::decode(payload).map(|l| l.records), k, records::output_bytes),
+        _ => panic!("{code:02X} is no list"),
+    }
+}
+
+fn walk(place: Option<usize>, payload: &[u8]) -> Answer {
+    if let Some(at) = place {
+        return Answer::Gave(model::walk(payload, at));
+    }
+    gave(cmd::LedControl::decode(payload).map(|l| l.records.iter().flat_map(records::led_bytes).collect()))
+}
+
+fn read_at(place: usize, payload: &[u8]) -> Answer {
+    match model::part(0x68, payload, place, 4) {
+        Ok(part) => picked(0x68, cmd::OutputControl::decode(part).map(|l| l.records), 0, records::output_bytes),
+        Err(e) => Answer::Refused(e),
+    }
+}
+
+fn write_at(code: u8, place: usize, room: usize, fixed: &[u8]) -> Answer {
+    match model::room_at(code, place, fixed.len(), room) {
+        Ok(()) => write(false, code, fixed, &[]),
+        Err(e) => Answer::Refused(e),
+    }
+}
+
+fn bits(count: u16, bits: &[u8]) -> Answer {
+    let raw = rep::Raw { reader: 0, format_code: 0, bit_count: count, bits: bits.to_vec() };
+    Answer::Gave(raw.iter_bits().map(u8::from).collect())
+}
+
+pub fn answer(case: &Case) -> Answer {
+    match case {
+        Case::Table(which, b) => table(*which, *b),
+        Case::Guard(which, n, code, data) => guard(*which, *n, *code, data),
+        Case::Payload { is_reply: false, of_kind, code, payload } => command(*of_kind, *code, payload),
+        Case::Payload { is_reply: true, of_kind, code, payload } => reply(*of_kind, *code, payload),
+        Case::Write { is_reply, code, fixed, tail } => write(*is_reply, *code, fixed, tail),
+        Case::Bits(count, data) => bits(*count, data),
+        Case::Record { code, k, payload } => record(*code, *k, payload),
+        Case::Walk { place, payload } => walk(*place, payload),
+        Case::ReadAt { place, payload } => read_at(*place, payload),
+        Case::WriteAt { code, place, room, fixed } => write_at(*code, *place, *room, fixed),
+    }
+}

@@ -1,0 +1,58 @@
+//! What document 01 adds and the original lacks: a plain model, written for the comparison alone.
+//! Row 15 of calls that write from a buffer's front is not here: the program that compares tries buffers that are too short by itself.
+use crate::answer::Refusal;
+use crate::records::led_bytes;
+use osdp::command::LedControl;
+
+/// The carried kinds, and the longest payload that the calls by code take.
+pub const COMMANDS: [u8; 7] = [0x69, 0x68, 0x6B, 0x73, 0x74, 0x7C, 0x80];
+pub const REPLIES: [u8; 6] = [0x50, 0x51, 0x57, 0x58, 0x41, 0xB1];
+pub const LIMIT: usize = 65_546;
+
+/// A guard with a block of 0, where the original can panic: row 5.
+pub fn block_of_zero(code: u8, len: usize) -> Refusal {
+    Refusal { row: 5, code, first: 0, second: len }
+}
+
+/// Calls by code, for a code of the table: rows 14 and 28.
+pub fn by_code(carried: bool, code: u8, len: usize) -> Option<Refusal> {
+    if !carried {
+        return Some(Refusal { row: 14, code, first: 0, second: 0 });
+    }
+    (len > LIMIT).then_some(Refusal { row: 28, code, first: LIMIT, second: len })
+}
+
+/// Strict, for a payload that check passes: row 17, the first byte by offset.
+pub fn strict(code: u8, payload: &[u8]) -> Option<Refusal> {
+    let highest = |at: usize| match (code, at) {
+        (0x69, at) if [5, 6, 12, 13].contains(&(at % 14)) => 7,
+        (0x73 | 0x74 | 0x57, 1) => 0x11,
+        (0x73 | 0x74 | 0x57, 2) => 2,
+        _ => 0xFF,
+    };
+    let (first, &b) = payload.iter().enumerate().find(|&(at, &b)| b > highest(at))?;
+    Some(Refusal { row: 17, code, first, second: b.into() })
+}
+
+/// Record k of a list that was read: row 16.
+pub fn record<T>(code: u8, records: &[T], k: usize) -> Result<&T, Refusal> {
+    records.get(k).ok_or(Refusal { row: 16, code, first: k, second: records.len() })
+}
+
+/// The records that an LED walker hands out from any place on, until fewer than 14 bytes are left.
+pub fn walk(payload: &[u8], place: usize) -> Vec<u8> {
+    let rest = payload.get(place..).unwrap_or(&[]);
+    rest.chunks_exact(14).flat_map(|r| led_bytes(&LedControl::decode(r).expect("14 bytes").records[0])).collect()
+}
+
+/// The bytes from a place on, of which a record has so many: row 4.
+pub fn part(code: u8, payload: &[u8], place: usize, width: usize) -> Result<&[u8], Refusal> {
+    let rest = payload.get(place..).unwrap_or(&[]);
+    rest.get(..width).ok_or(Refusal { row: 4, code, first: width, second: rest.len() })
+}
+
+/// A record of so many bytes at a place of a buffer: row 15.
+pub fn room_at(code: u8, place: usize, width: usize, room: usize) -> Result<(), Refusal> {
+    let needed = place.saturating_add(width);
+    if place.checked_add(width).is_some_and(|n| n <= room) { Ok(()) } else { Err(Refusal { row: 15, code, first: needed, second: room }) }
+}
