@@ -8,16 +8,14 @@ use native.Mathlib.Omega.{arith}
 use lib.ListN.{length, take, drop}
 use lib.Seq.{take-at}
 use Rattle.payload_util.specs.Bytes.{Bytes}
-use Rattle.payload_util.specs.Refusals.{_also_}
-use Rattle.payload_util.specs.Guards.{room}
 use Rattle.payload_util.specs.Outcome.{outcome}
-use Rattle.payload_util.specs.Writing.{Left, left, write, put, rewrite}
+use Rattle.payload_util.specs.Guards.{room}
+use Rattle.payload_util.specs.Writing.{Left, left, roomLast, write, put, rewrite}
 use Rattle.payload_util.specs.Loss.{Loss, without}
 use Rattle.payload_util.specs.Form.{Form, Record, checked, Accepted, Reads, written, Gives, normalised, LosesOnly}
 use Rattle.payload_util.specs.declared.Guard.{Guard}
 use Rattle.payload_util.specs.declared.Guard.the-variants.{Pass, Refused}
 use Rattle.payload_util.specs.declared.Written.the-variants.{Wrote}
-use Rattle.payload_util.proofs.Guards.{also-pass}
 
 -- What a kind owes. `of` is what stands at each offset, whether the payload is accepted or not; `bytes` are those of a record, and `refuse` is
 -- what its writer refuses it for, room aside.
@@ -36,15 +34,16 @@ pub record Law (code : ℕ) (f : Form) (l : Loss) : Type 0 where
   pub back : List ℕ → Record f
   pub restored : (r : Record f) → refuse r ≡ Pass → back (bytes r) ≡ r
 
--- what a writer wrote are the record's bytes
+-- what a writer wrote are the record's bytes, and no check refused
 pub wrote : (g : Guard) (code : ℕ) (bs out : List ℕ) (n : ℕ) → write g code bs out .0 ≡ Wrote n
     → (take n (write g code bs out .1) ≡ bs) × (g ≡ Pass)
-wrote g code bs out n e = go (g also room code (length bs) (length out)) refl e
+wrote g code bs out n e = go g (room code (length bs) (length out)) e
   where
-    go : (h : Guard) → (g also room code (length bs) (length out)) ≡ h → left h bs out .0 ≡ Wrote n
-        → (take n (write g code bs out .1) ≡ bs) × (g ≡ Pass)
-    go Pass q k = (rw q (take-at bs (drop (length bs) out) n (cc)), also-pass g _ q .0)
-    go (Refused r) q k = let z : _≡_ {A = ℕ} 0 1 = cc in absurd (omega arith)
+    go : (g r : Guard) → left (roomLast g r) bs out .0 ≡ Wrote n → (take n (left (roomLast g r) bs out .1) ≡ bs) × (g ≡ Pass)
+    go Pass Pass k = (take-at bs (drop (length bs) out) n (cc), refl)
+    go Pass (Refused x) k = let z : _≡_ {A = ℕ} 0 1 = cc in absurd (omega arith)
+    go (Refused x) Pass k = let z : _≡_ {A = ℕ} 0 1 = cc in absurd (omega arith)
+    go (Refused x) (Refused y) k = let z : _≡_ {A = ℕ} 0 1 = cc in absurd (omega arith)
 
 module _ (code : ℕ) (f : Form) (l : Loss) (law : Law code f l) where
   injective : (r s : Record f) → law .refuse r ≡ Pass → law .refuse s ≡ Pass → law .bytes r ≡ law .bytes s → r ≡ s

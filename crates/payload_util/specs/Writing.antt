@@ -18,9 +18,12 @@ abbrev pub left : Guard → List ℕ → List ℕ → Left
 left Pass bytes out = (Wrote (length bytes), bytes ++ drop (length bytes) out)
 left (Refused e) bytes out = (NotWritten e, out)
 
--- the kind's own checks, then room
+-- the kind's own checks come first, and room last
+abbrev pub roomLast : Guard → Guard → Guard
+roomLast own room = own also room
+
 abbrev pub write : Guard → ℕ → List ℕ → List ℕ → Left
-write g code bytes out = left (g also room code (length bytes) (length out)) bytes out
+write own code bytes out = left (roomLast own (room code (length bytes) (length out))) bytes out
 
 abbrev pub put : ℕ → List ℕ → List ℕ → Left
 put code bytes out = write Pass code bytes out

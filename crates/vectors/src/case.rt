@@ -29,7 +29,11 @@ pub enum Outcome {
 
 impl Outcome {
     pub fn of(is_same: bool) -> Outcome {
-        if is_same { Outcome::Same } else { Outcome::Differs }
+        if is_same {
+            Outcome::Same
+        } else {
+            Outcome::Differs
+        }
     }
 }
 

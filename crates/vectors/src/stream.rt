@@ -39,16 +39,28 @@ fn quad(s: &[u8], at: usize) -> usize
 // One byte below 255, or 255 and then eight bytes, low byte first. Where the stream ends before, no index is after it.
 fn read_number(s: &[u8], at: usize) -> Number {
     if s.len() <= at {
-        return Number { value: 0, next: PAST };
+        return Number {
+            value: 0,
+            next: PAST,
+        };
     }
     let b = s[at];
     if b < 255 {
-        return Number { value: wide(b), next: at + 1 };
+        return Number {
+            value: wide(b),
+            next: at + 1,
+        };
     }
     if s.len() - at < 9 {
-        return Number { value: 0, next: PAST };
+        return Number {
+            value: 0,
+            next: PAST,
+        };
     }
-    Number { value: quad(s, at + 1) + 4294967296 * quad(s, at + 5), next: at + 9 }
+    Number {
+        value: quad(s, at + 1) + 4294967296 * quad(s, at + 5),
+        next: at + 9,
+    }
 }
 
 // The sum of two indices or lengths, and PAST where there is none.
