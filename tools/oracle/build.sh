@@ -11,7 +11,7 @@ out=$root/build/oracle
 if [ ! -d "$from/command" ]; then
     cat >&2 <<END
 $0: the original Rust is not in ${1:-$root/../shared/docs/src}.
-Fetch https://github.com/Quantumlyy/osdp-rs at commit 8e2b7c7df1, and put its files there so that
+Fetch the repository Quantumlyy/osdp-rs at commit 8e2b7c7df1, and put its files there so that
 src/command/led.rs is in that folder, or give the folder as the argument.
 END
     exit 1
