@@ -11,11 +11,16 @@ use Rattle.led.specs.Led.{checkLed, stepLed}
 use Rattle.led.specs.declared.LedStep.{LedStep}
 use Rattle.led_walker.specs.declared.LedWalker.{LedWalker}
 use Rattle.led_walker.specs.declared.LedStart.{LedStart}
+use Rattle.led_walker.specs.declared.LedStarted.{LedStarted}
 use Rattle.led_walker.specs.declared.LedMoved.{LedMoved}
 
 -- the payload where the LED reader accepts it, else no bytes; place 0; the reader's check
 abbrev pub startLed : List ℕ → List ℕ × ℕ × Guard
 startLed p = (tailWhere (checkLed p) p, 0, checkLed p)
+
+-- the same in plain values
+abbrev pub startedLed : List ℕ → LedStarted
+startedLed p = record { len = length (tailWhere (checkLed p) p); at = 0; checked = checkLed p }
 
 -- the place after a step: past the record where 14 bytes are left, else the same
 abbrev pub placeAfter : List ℕ → ℕ → ℕ

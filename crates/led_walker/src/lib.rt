@@ -5,7 +5,7 @@ use payload_util::Guard;
 use payload_util::tail_from;
 use payload_util::tail_where;
 ghost use mathlib.Core.Path.{_≡_};
-ghost use Rattle.led_walker.specs.Walk.{startLed, placeAfter, movedLed, stepped};
+ghost use Rattle.led_walker.specs.Walk.{startLed, startedLed, placeAfter, movedLed, stepped};
 
 pub struct LedWalker<'a> {
     pub payload: &'a [u8],
@@ -15,6 +15,13 @@ pub struct LedWalker<'a> {
 // What starting gives: a pass beside the payload and the place of its first record, or a refusal beside no bytes and 0.
 pub struct LedStart<'a> {
     pub payload: &'a [u8],
+    pub at: usize,
+    pub checked: Guard,
+}
+
+// The same in plain values: how many bytes the walker holds, its place, and the check.
+pub struct LedStarted {
+    pub len: usize,
     pub at: usize,
     pub checked: Guard,
 }
@@ -65,6 +72,18 @@ fn moved_at(payload: &[u8], at: usize) -> LedMoved
     LedMoved {
         step: LedRecord::decode_at(payload, at),
         at: place_after(payload, at),
+    }
+}
+
+// What starting gives, with a plain result: its callers need no walk by hand.
+pub fn started(payload: &[u8]) -> LedStarted
+    ensures { λ r. ⌜ r ≡ startedLed (now (payload .entry)) ⌝ }
+{
+    let start = LedWalker::start(payload);
+    LedStarted {
+        len: start.payload.len(),
+        at: start.at,
+        checked: start.checked,
     }
 }
 

@@ -89,7 +89,15 @@ module _ {X : Type 0} (bytes : X → List ℕ) (size : ℕ) (fixed : (x : X) →
         let rest : drop (k * size + size) (state k) ≡ drop (k * size + size) o =
         ap (λ (n : ℕ). drop (n + size) (state k)) (sym e) ∙ drop-append-add p (drop (k * size) o) size ∙ drop-drop size (k * size) o in
         let fits : k * size + size ≤ length (state k) = omega (arith, state-length f k (omega arith), mul-le-mul-right size h, suc-mul k size) in
-        simp (s, pass-room code (k * size + size) (length (state k)) fits, take-at p (drop (k * size) o) (k * size) e, rest, next, suc-mul k size, append-assoc)
+        simp (
+          s,
+          pass-room code (k * size + size) (length (state k)) fits,
+          take-at p (drop (k * size) o) (k * size) e,
+          rest,
+          next,
+          suc-mul k size,
+          append-assoc,
+        )
 
     -- what is known of the buffer beside the answer
     pub data Facts : Written → Type 0 where

@@ -18,7 +18,8 @@ ghost use lib.ListN.{length, drop};
 ghost use Rattle.payload_util.specs.Outcome.{guardOf};
 ghost use Rattle.payload_util.specs.Form.{normalised};
 ghost use Rattle.lists.specs.List.{putAt};
-ghost use Rattle.output.specs.Output.{outputByte, readOutputCode, outputCodeOutcome, checkOut, codesKnown, outOutcome, readOut, readOutAt, outBytes, outCode, writeOuts, outForm};
+ghost use Rattle.output.specs.Output.{outCode, outputByte, readOutputCode, outputCodeOutcome, checkOut, codesKnown};
+ghost use Rattle.output.specs.Output.{outOutcome, readOut, readOutAt, outBytes, writeOuts, outForm};
 
 // Table 14.
 pub enum OutputControlCode {

@@ -1,6 +1,6 @@
 // Classes 1 to 4: the guards. The argument is the guard's number.
-use crate::case::Case;
-use crate::case::Outcome;
+use cases::Case;
+use cases::Outcome;
 use payload_util::Guard;
 
 pub fn run(c: Case, input: &[u8]) -> Outcome {

@@ -5,8 +5,8 @@ mod stream;
 mod table;
 mod tally;
 
-use crate::case::Case;
 use crate::tally::Tally;
+use cases::Case;
 ghost use Prim.Native.Nat.{_≤_, _-_};
 
 // Runs a case whose input and output stand in the space.
@@ -32,7 +32,7 @@ fn turn(t: Tally, space: &mut [u8], out: &mut [u8]) -> Tally {
     let c = stream::take(&mut *space, t.from, t.to);
     let class = c.class;
     match class {
-        0..=case::LAST => whole(t, c, space, out),
+        0..=cases::LAST => whole(t, c, space, out),
         stream::SHORT => t.refilled(stream::refill(space, t.from, t.to)),
         stream::END => t.ended(c),
         _ => t.broken(),

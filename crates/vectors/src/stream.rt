@@ -1,5 +1,6 @@
 // The stream of cases. One space holds the bytes that were read, up to BLOCKS, and after them the input and the output of a case.
-use crate::case::Case;
+use cases::Case;
+use cases::put;
 ghost use Prim.Native.Nat.{_<_, _≤_, _+_};
 ghost use lib.ListN.{length};
 
@@ -169,19 +170,6 @@ fn move_bytes(space: &mut [u8], from: usize, to: usize, n: usize) -> bool {
     while i < n {
         let b = space[from + i];
         space[to + i] = b;
-        i += 1;
-    }
-    true
-}
-
-// Puts b at every index from one up to another.
-pub fn put(into: &mut [u8], from: usize, to: usize, b: u8) -> bool {
-    if into.len() < to {
-        return false;
-    }
-    let mut i = from;
-    while i < to {
-        into[i] = b;
         i += 1;
     }
     true

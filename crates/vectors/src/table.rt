@@ -1,8 +1,8 @@
 // Class 0: the code tables. The argument is the table, the input the byte to look up, the output the byte of its code.
-use crate::case::Case;
-use crate::case::Outcome;
 use biometric::BioFormat;
 use biometric::BioType;
+use cases::Case;
+use cases::Outcome;
 use codes::CommandCode;
 use codes::CommandCodeRead;
 use codes::ReplyCode;

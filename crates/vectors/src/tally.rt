@@ -1,6 +1,6 @@
 // What the cases came to, and where the stream stands.
-use crate::case::Case;
-use crate::case::Outcome;
+use cases::Case;
+use cases::Outcome;
 use std::num::wrapping_add_u64;
 use std::num::wrapping_add_usize;
 

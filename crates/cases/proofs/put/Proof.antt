@@ -3,8 +3,8 @@ use mathlib.Core.Path.{_≡_}
 use Prim.Native.Nat.{_-_}
 use borrow.Author.Needs.{needs}
 use lib.ListN.{length}
-use Rattle.vectors.proofs.stream.put.Statement.{statement}
-use Rattle.vectors.proofs.stream.put.Tie as tie
+use Rattle.cases.proofs.put.Statement.{statement}
+use Rattle.cases.proofs.put.Tie as tie
 
 abbrev Inv-loop : tie.InvT-loop
 Inv-loop into₀ from to b i₀ into i = (length into ≡ length into₀)

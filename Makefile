@@ -1,0 +1,55 @@
+# make alone prints what there is. Everything that is made goes to build/ and target/, which git ignores.
+RUST =
+SCALE =
+SEED =
+LIB := target/staticlib/libosdp.a
+
+.PHONY: help lib example test compare compare-vectors compare-calls bench performance proof-map clean
+
+help:
+	@echo "make test         the gate: proves every crate from nothing, tries the must-fail edits, runs the programs (.ci/run)"
+	@echo "make lib          proves osdp and writes $(LIB); the header is include/osdp.h"
+	@echo "make example      builds and runs examples/c with gcc, and with clang where there is one"
+	@echo "make compare      against the original Rust: compare-vectors, then compare-calls"
+	@echo "  compare-vectors   the Rust's answers to generated cases, replayed by the program vectors"
+	@echo "  compare-calls     the four C calls, in one process with the Rust"
+	@echo "make bench        times and instructions against the original Rust, to build/bench"
+	@echo "make performance  the same, and writes docs/PERFORMANCE.md and docs/performance.svg"
+	@echo "make proof-map    whether every name in docs/PROOF-MAP.md exists"
+	@echo "make clean        removes build/"
+	@echo
+	@echo "RUST=FOLDER  where the original Rust is (Quantumlyy/osdp-rs at 8e2b7c7df1); by default ../shared/docs/src beside this repository"
+	@echo "SEED=NUMBER  another seed for compare; SCALE=NUMBER  how many cases compare-vectors makes by chance (1000)"
+
+lib: $(LIB)
+
+$(LIB): crates.txt $(shell find crates -name '*.rt' -o -name '*.antt')
+	rt staticlib osdp
+	@touch $@
+
+example: $(LIB)
+	$(MAKE) -C examples/c
+
+test:
+	.ci/run
+
+compare: compare-vectors compare-calls
+
+compare-vectors:
+	rt check vectors
+	tools/oracle/compare.sh "$(RUST)" "$(SCALE)" "$(SEED)"
+
+compare-calls: $(LIB)
+	tools/compare/run.sh "$(RUST)" "$(SEED)"
+
+bench: $(LIB)
+	tools/bench/run.sh "$(RUST)"
+
+performance: $(LIB)
+	tools/bench/run.sh --docs "$(RUST)"
+
+proof-map:
+	python3 tools/proof_map.py
+
+clean:
+	rm -rf build

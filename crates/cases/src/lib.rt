@@ -1,0 +1,148 @@
+// A case with its wanted answer, and what every comparison shares: buffers that are filled up, and the fields of records made by hand.
+use payload_util::Guard;
+use payload_util::Refusal;
+use payload_util::Written;
+
+// The highest class of a case.
+pub const LAST: u8 = 14;
+
+pub struct Case {
+    pub class: u8,
+    pub code: u8,
+    pub argument: usize,
+    // the wanted answer: the row of its refusal with its two numbers, or 0
+    pub row: u8,
+    pub first: usize,
+    pub second: usize,
+    // where its output begins and ends; its input ends where that begins
+    pub mid: usize,
+    pub end: usize,
+    // how long it is in the stream
+    pub size: usize,
+}
+
+// What a case came to.
+pub enum Outcome {
+    Same,
+    Differs,
+    Skipped,
+}
+
+impl Outcome {
+    pub fn of(is_same: bool) -> Outcome {
+        if is_same {
+            Outcome::Same
+        } else {
+            Outcome::Differs
+        }
+    }
+}
+
+impl Case {
+    // A class without a case.
+    pub fn none(class: u8) -> Case {
+        Case {
+            class,
+            code: 0,
+            argument: 0,
+            row: 0,
+            first: 0,
+            second: 0,
+            mid: 0,
+            end: 0,
+            size: 0,
+        }
+    }
+
+    // Whether e is the wanted refusal.
+    pub fn refuses(self, e: Refusal) -> bool {
+        0 < self.row
+            && e.number == self.row
+            && e.code == self.code
+            && e.first == self.first
+            && e.second == self.second
+    }
+
+    // Whether g is the wanted answer.
+    pub fn guards(self, g: Guard) -> bool {
+        match g {
+            Guard::Pass => self.row == 0,
+            Guard::Refused(e) => self.refuses(e),
+        }
+    }
+}
+
+// Puts b at every index from one up to another.
+pub fn put(into: &mut [u8], from: usize, to: usize, b: u8) -> bool {
+    if into.len() < to {
+        return false;
+    }
+    let mut i = from;
+    while i < to {
+        into[i] = b;
+        i += 1;
+    }
+    true
+}
+
+// The bytes that buffers are filled up with. They differ, so that a byte that is not written shows by one of them.
+pub const FILL: u8 = 0xA5;
+
+pub const OTHER: u8 = 0x5A;
+
+// Whether the answer and every byte of a buffer that was filled up are the wanted ones.
+pub fn wrote(c: Case, written: Written, want: &[u8], out: &[u8], fill: u8) -> bool {
+    match written {
+        Written::Wrote(n) => c.row == 0 && n == want.len() && holds(out, 0, want, fill),
+        Written::Refused(e) => filled(out, 0, fill) && refuses(c, e, want.len(), out.len()),
+    }
+}
+
+// Whether e has to be the refusal where the output has n bytes and the buffer has room for so many.
+fn refuses(c: Case, e: Refusal, n: usize, room: usize) -> bool {
+    if c.row == 0 {
+        room < n && e.number == 15 && e.code == c.code && e.first == n && e.second == room
+    } else {
+        c.refuses(e)
+    }
+}
+
+// Whether a buffer has the wanted bytes from an index on, and else what it was filled up with.
+pub fn holds(out: &[u8], at: usize, want: &[u8], fill: u8) -> bool {
+    let n = want.len();
+    if out.len() < n {
+        return false;
+    }
+    if out.len() - n < at {
+        return false;
+    }
+    let end = at + n;
+    check::same(&out[at..end], want) && filled(&out[0..at], 0, fill) && filled(out, end, fill)
+}
+
+// Whether every byte from an index on is b.
+pub fn filled(s: &[u8], from: usize, b: u8) -> bool {
+    let mut i = from;
+    while i < s.len() {
+        if s[i] != b {
+            return false;
+        }
+        i += 1;
+    }
+    true
+}
+
+// Fields of records made by hand. The library's own numbers are not used: they are what is compared.
+// The byte at an index, or 0.
+pub fn byte(s: &[u8], at: usize) -> u8 {
+    if at < s.len() { s[at] } else { 0 }
+}
+
+// The number of two bytes, and of two such numbers.
+pub fn word(low: u8, high: u8) -> u16 {
+    (low as u16) + 256 * (high as u16)
+}
+
+pub fn long(low: u16, high: u16) -> u32 {
+    (low as u32) + 65536 * (high as u32)
+}

@@ -1,0 +1,41 @@
+#!/usr/bin/env bash
+# Measures the C calls against the original Rust: run.sh [--docs] [SOURCES]
+# SOURCES as for tools/oracle/build.sh, which builds the original. Writes build/bench/PERFORMANCE.md and performance.svg, and with --docs
+# copies both to docs/.
+set -eu
+here=$(cd "$(dirname "$0")" && pwd)
+root=$(cd "$here/../.." && pwd)
+lib=$root/target/staticlib/libosdp.a
+out=$root/build/bench
+docs=
+[ "${1-}" != --docs ] || { docs=1; shift; }
+[ -f "$lib" ] || { echo "$0: $lib is not there: make lib builds it" >&2; exit 1; }
+"$root/tools/oracle/build.sh" ${1:+"$1"}
+rm -rf "$out"
+mkdir -p "$out/counts"
+
+# Two binaries, whose code differs in its place alone.
+build() {
+    rustc --edition 2021 -C opt-level=3 -C codegen-units=1 -D warnings --check-cfg 'cfg(shifted)' --crate-name bench \
+        --extern osdp="$root/build/oracle/libosdp.rlib" -C link-arg="$lib" "$@" "$here/bench.rs"
+}
+build -o "$out/bench-1"
+build -o "$out/bench-2" --cfg shifted
+for run in $(seq 15); do
+    for place in 1 2; do
+        "$out/bench-$place" >"$out/place-$place-run-$run.tsv"
+    done
+done
+
+# Instructions, which do not depend on the machine's load: one dump for each call of `measured`.
+if command -v valgrind >/dev/null; then
+    valgrind --tool=callgrind --callgrind-out-file="$out/counts/call" --toggle-collect=measured --dump-after=measured \
+        "$out/bench-1" count >"$out/counts.tsv" 2>"$out/valgrind.log" || { cat "$out/valgrind.log" >&2; exit 1; }
+else
+    echo "$0: no valgrind here: instructions are not counted" >&2
+fi
+python3 "$here/report.py" "$out"
+if [ -n "$docs" ]; then
+    cp "$out/PERFORMANCE.md" "$out/performance.svg" "$root/docs/"
+    echo "written: docs/PERFORMANCE.md docs/performance.svg"
+fi
