@@ -133,7 +133,7 @@ fn sizes(k: &Kind) -> &'static [usize] {
         "BIOREAD" => &[4],
         "BIOMATCHR" => &[3],
         "FMT" => &[3, 16, 67, 131, 258],
-        // Not 8196: there glibc puts the two blocks of the Rust 16 bytes apart modulo a page, and its copies take ten times as long.
+        // Not 8196: there the Rust's copies were seen to take ten times as long in some runs; its two blocks then lie 16 bytes apart modulo a page.
         "RAW" => &[4, 8, 36, 1024, 8100],
         "BIOMATCH" | "BIOREADR" => &[6, 64, 1024, 8000, 60_000],
         "FILETRANSFER" => &[11, 64, 1024, 8000, 60_000],
