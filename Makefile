@@ -4,9 +4,11 @@ SCALE =
 SEED =
 LIB := target/staticlib/libosdp.a
 
-.PHONY: help lib example test compare compare-vectors compare-calls bench performance proof-map clean
+.PHONY: help run inputs lib example test compare compare-vectors compare-calls bench performance proof-map clean
 
 help:
+	@echo "make run          proves and builds inspect, and shows the sample payloads with it"
+	@echo "make inputs       inspect on bad lines, bad files, every code, the longest payloads, and many lines"
 	@echo "make test         the gate: proves every crate from nothing, tries the must-fail edits, runs the programs (.ci/run)"
 	@echo "make lib          proves osdp and writes $(LIB); the header is include/osdp.h"
 	@echo "make example      builds and runs examples/c with gcc, and with clang where there is one"
@@ -20,6 +22,15 @@ help:
 	@echo
 	@echo "RUST=FOLDER  where the original Rust is (Quantumlyy/osdp-rs at 8e2b7c7df1); by default ../shared/docs/src beside this repository"
 	@echo "SEED=NUMBER  another seed for compare; SCALE=NUMBER  how many cases compare-vectors makes by chance (1000)"
+
+# rt check proves inspect and what it stands on, builds it, and holds what it says of its sample to the stored output.
+run:
+	rt check inspect
+	tools/inspect/run.sh
+
+inputs:
+	rt check inspect
+	tools/inspect/inputs.py target/bin/inspect "$(RUST)"
 
 lib: $(LIB)
 

@@ -2,6 +2,18 @@
 use payload_util::Guard;
 use payload_util::Refusal;
 use payload_util::Written;
+ghost use mathlib.Core.Path.{_≡_};
+ghost use mathlib.Core.Bool.{true};
+ghost use mathlib.Core.Logic.{_↔_};
+ghost use Prim.Native.Nat.{_+_, _*_};
+ghost use lib.ListN.{length};
+ghost use Rattle.payload_util.specs.Bytes.{byteAt};
+ghost use Rattle.payload_util.specs.Refusals.{row};
+ghost use Rattle.payload_util.specs.Guards.{room};
+ghost use Rattle.payload_util.specs.Writing.{roomLast};
+ghost use Rattle.payload_util.specs.declared.Guard.the-variants.{Refused};
+ghost use Rattle.cases.specs.Case.{outcomeOf, noCase, wanted, wantedLeft};
+ghost use Rattle.cases.specs.Buffer.{AllFrom, around, putting};
 
 // The highest class of a case.
 pub const LAST: u8 = 14;
@@ -29,7 +41,9 @@ pub enum Outcome {
 }
 
 impl Outcome {
-    pub fn of(is_same: bool) -> Outcome {
+    pub fn of(is_same: bool) -> Outcome
+        ensures { λ r. ⌜ r ≡ outcomeOf «is_same» ⌝ }
+    {
         if is_same {
             Outcome::Same
         } else {
@@ -40,7 +54,9 @@ impl Outcome {
 
 impl Case {
     // A class without a case.
-    pub fn none(class: u8) -> Case {
+    pub fn none(class: u8) -> Case
+        ensures { λ r. ⌜ r ≡ noCase class ⌝ }
+    {
         Case {
             class,
             code: 0,
@@ -55,16 +71,19 @@ impl Case {
     }
 
     // Whether e is the wanted refusal.
-    pub fn refuses(self, e: Refusal) -> bool {
-        0 < self.row
-            && e.number == self.row
-            && e.code == self.code
-            && e.first == self.first
-            && e.second == self.second
+    pub fn refuses(self, e: Refusal) -> bool
+        ensures { λ r. ⌜ (r ≡ true) ↔ (Refused e ≡ wanted self) ⌝ }
+    {
+        if self.row == 0 {
+            return false;
+        }
+        is_row(e, self.row, self.code, self.first, self.second)
     }
 
     // Whether g is the wanted answer.
-    pub fn guards(self, g: Guard) -> bool {
+    pub fn guards(self, g: Guard) -> bool
+        ensures { λ r. ⌜ (r ≡ true) ↔ (g ≡ wanted self) ⌝ }
+    {
         match g {
             Guard::Pass => self.row == 0,
             Guard::Refused(e) => self.refuses(e),
@@ -72,8 +91,29 @@ impl Case {
     }
 }
 
-// Puts b at every index from one up to another.
-pub fn put(into: &mut [u8], from: usize, to: usize, b: u8) -> bool {
+// Whether e is this row.
+fn is_row(e: Refusal, number: u8, code: u8, first: usize, second: usize) -> bool
+    ensures { λ r. ⌜ (r ≡ true) ↔ (e ≡ row number code first second) ⌝ }
+{
+    if e.number != number {
+        return false;
+    }
+    if e.code != code {
+        return false;
+    }
+    if e.first != first {
+        return false;
+    }
+    if e.second != second {
+        return false;
+    }
+    true
+}
+
+// Puts b at every index from one up to another. False where the slice is too short.
+pub fn put(into: &mut [u8], from: usize, to: usize, b: u8) -> bool
+    ensures { λ r. ⌜ (r, now (into .exit)) ≡ putting from to b (now (into .entry)) ⌝ }
+{
     if into.len() < to {
         return false;
     }
@@ -91,24 +131,45 @@ pub const FILL: u8 = 0xA5;
 pub const OTHER: u8 = 0x5A;
 
 // Whether the answer and every byte of a buffer that was filled up are the wanted ones.
-pub fn wrote(c: Case, written: Written, want: &[u8], out: &[u8], fill: u8) -> bool {
+pub fn wrote(c: Case, written: Written, want: &[u8], out: &[u8], fill: u8) -> bool
+    ensures { λ r. ⌜ (r ≡ true) ↔ ((written, now (out .entry)) ≡ wantedLeft c (now (want .entry)) (length (now (out .entry))) fill) ⌝ }
+{
     match written {
-        Written::Wrote(n) => c.row == 0 && n == want.len() && holds(out, 0, want, fill),
-        Written::Refused(e) => filled(out, 0, fill) && refuses(c, e, want.len(), out.len()),
+        Written::Wrote(n) => {
+            if c.row != 0 {
+                return false;
+            }
+            if n != want.len() {
+                return false;
+            }
+            holds(out, 0, want, fill)
+        }
+        Written::Refused(e) => {
+            if !filled(out, 0, fill) {
+                return false;
+            }
+            refuses(c, e, want.len(), out.len())
+        }
     }
 }
 
 // Whether e has to be the refusal where the output has n bytes and the buffer has room for so many.
-fn refuses(c: Case, e: Refusal, n: usize, room: usize) -> bool {
-    if c.row == 0 {
-        room < n && e.number == 15 && e.code == c.code && e.first == n && e.second == room
-    } else {
-        c.refuses(e)
+fn refuses(c: Case, e: Refusal, n: usize, given: usize) -> bool
+    ensures { λ r. ⌜ (r ≡ true) ↔ (Refused e ≡ roomLast (wanted c) (room (c .code) n given)) ⌝ }
+{
+    if c.row != 0 {
+        return c.refuses(e);
     }
+    if n <= given {
+        return false;
+    }
+    is_row(e, 15, c.code, n, given)
 }
 
 // Whether a buffer has the wanted bytes from an index on, and else what it was filled up with.
-pub fn holds(out: &[u8], at: usize, want: &[u8], fill: u8) -> bool {
+pub fn holds(out: &[u8], at: usize, want: &[u8], fill: u8) -> bool
+    ensures { λ r. ⌜ (r ≡ true) ↔ (now (out .entry) ≡ around at (now (want .entry)) (length (now (out .entry))) fill) ⌝ }
+{
     let n = want.len();
     if out.len() < n {
         return false;
@@ -117,11 +178,19 @@ pub fn holds(out: &[u8], at: usize, want: &[u8], fill: u8) -> bool {
         return false;
     }
     let end = at + n;
-    check::same(&out[at..end], want) && filled(&out[0..at], 0, fill) && filled(out, end, fill)
+    if !check::same(&out[at..end], want) {
+        return false;
+    }
+    if !filled(&out[0..at], 0, fill) {
+        return false;
+    }
+    filled(out, end, fill)
 }
 
 // Whether every byte from an index on is b.
-pub fn filled(s: &[u8], from: usize, b: u8) -> bool {
+pub fn filled(s: &[u8], from: usize, b: u8) -> bool
+    ensures { λ r. ⌜ (r ≡ true) ↔ AllFrom (now (s .entry)) from b ⌝ }
+{
     let mut i = from;
     while i < s.len() {
         if s[i] != b {
@@ -134,15 +203,21 @@ pub fn filled(s: &[u8], from: usize, b: u8) -> bool {
 
 // Fields of records made by hand. The library's own numbers are not used: they are what is compared.
 // The byte at an index, or 0.
-pub fn byte(s: &[u8], at: usize) -> u8 {
+pub fn byte(s: &[u8], at: usize) -> u8
+    ensures { λ r. ⌜ r ≡ byteAt (now (s .entry)) at ⌝ }
+{
     if at < s.len() { s[at] } else { 0 }
 }
 
 // The number of two bytes, and of two such numbers.
-pub fn word(low: u8, high: u8) -> u16 {
+pub fn word(low: u8, high: u8) -> u16
+    ensures { λ r. ⌜ r ≡ low + 256 * high ⌝ }
+{
     (low as u16) + 256 * (high as u16)
 }
 
-pub fn long(low: u16, high: u16) -> u32 {
+pub fn long(low: u16, high: u16) -> u32
+    ensures { λ r. ⌜ r ≡ low + 65536 * high ⌝ }
+{
     (low as u32) + 65536 * (high as u32)
 }

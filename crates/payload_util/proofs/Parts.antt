@@ -16,6 +16,10 @@ use Rattle.payload_util.specs.declared.Written.the-variants.{Wrote}
 pub part-to-end : (p : List ℕ) (at : ℕ) → take (length p - at) (drop at p) ≡ drop at p
 part-to-end p at = take-all (length p - at) (drop at p) (simp length-drop (omega arith))
 
+-- e is the block d with s at its front
+pub front : (d s e : List ℕ) → e ≡ paste d 0 s (length s) → take (length s) e ≡ s
+front d s e p = simp (p, take-length, zero-add, take-append-seam)
+
 -- d is the buffer with the head, and e the same with the tail after it
 pub two-parts : (code : ℕ) (h t out d e : List ℕ) → room code (length h + length t) (length out) ≡ Pass
     → d ≡ paste out 0 h (length h) → e ≡ paste d (length h) t (length t)

@@ -191,8 +191,11 @@ pub fn high_half(n: u32) -> u16
     (n / 65536) as u16
 }
 
-// Copies all of src into out from an offset on.
-fn copy_at(src: &[u8], out: &mut [u8], at: usize)
+// The longest copy that goes through a block.
+const BLOCK: usize = 65536;
+
+// Copies all of src into out from an offset on, byte by byte.
+fn copy_bytes(src: &[u8], out: &mut [u8], at: usize)
     requires { ⌜ at + length (now src) ≤ length (now out) ⌝ }
     ensures { λ _. ⌜ now (out .exit) ≡ paste (now (out .entry)) at (now (src .entry)) (length (now (src .entry))) ⌝ }
 {
@@ -200,6 +203,28 @@ fn copy_at(src: &[u8], out: &mut [u8], at: usize)
     while i < src.len() {
         out[at + i] = src[i];
         i += 1;
+    }
+}
+
+// The same through a block. It overlaps neither src nor out, and so the compiler leaves it out and makes one memmove of both loops.
+fn copy_block(src: &[u8], out: &mut [u8], at: usize)
+    requires { ⌜ (length (now src) ≤ 65536) × (at + length (now src) ≤ length (now out)) ⌝ }
+    ensures { λ _. ⌜ now (out .exit) ≡ paste (now (out .entry)) at (now (src .entry)) (length (now (src .entry))) ⌝ }
+{
+    let mut block = [0; BLOCK];
+    copy_bytes(src, &mut block, 0);
+    copy_bytes(&block[..src.len()], out, at);
+}
+
+// The same, through a block where there is one that long.
+fn copy_at(src: &[u8], out: &mut [u8], at: usize)
+    requires { ⌜ at + length (now src) ≤ length (now out) ⌝ }
+    ensures { λ _. ⌜ now (out .exit) ≡ paste (now (out .entry)) at (now (src .entry)) (length (now (src .entry))) ⌝ }
+{
+    if src.len() <= BLOCK {
+        copy_block(src, out, at);
+    } else {
+        copy_bytes(src, out, at);
     }
 }
 

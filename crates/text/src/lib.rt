@@ -4,6 +4,7 @@ use payload_util::Refusal;
 use payload_util::Written;
 use payload_util::put_bytes;
 use payload_util::put_checked;
+use payload_util::require;
 use payload_util::require_at_least;
 use payload_util::require_at_most;
 use payload_util::require_declared_len;
@@ -81,24 +82,20 @@ impl Text {
     // The length field included.
     pub const WIRE_LEN: usize = 6;
 
-    // Row 8 at the first byte outside 0x20 to 0x7E.
+    // Row 8 of a text with a byte outside 0x20 to 0x7E. The loop goes on after such a byte, so that the compiler takes many bytes a turn.
     pub fn validate_ascii(s: &[u8]) -> Guard
         ensures { λ r. ⌜ r ≡ printable (now (s .entry)) ⌝ }
     {
+        let mut shown = true;
         let mut i = 0;
         while i < s.len() {
             let b = s[i];
             if b < 0x20 || 0x7E < b {
-                return Guard::Refused(Refusal {
-                    number: 8,
-                    code: Self::CODE,
-                    first: 0,
-                    second: 0,
-                });
+                shown = false;
             }
             i += 1;
         }
-        Guard::Pass
+        require(shown, 8, Self::CODE, 0, 0)
     }
 
     // The checks that come before the command.

@@ -1,0 +1,27 @@
+-- `all` is safe and ends: the offset rises to the payload's length, and the buffer keeps its own. Assumes nothing.
+use mathlib.Core.Path.{_≡_}
+use Prim.Native.Nat.{_-_}
+use borrow.Author.Needs.{needs}
+use lib.ListN.{length}
+use Rattle.inspect.proofs.record.all.Statement.{statement}
+use Rattle.inspect.proofs.record.all.Tie as tie
+
+abbrev Inv-loop : tie.InvT-loop
+Inv-loop kind p bits out₀ from at₀ offset₀ out at offset = length out ≡ length out₀
+
+abbrev μ-loop : tie.MeasureT-loop
+μ-loop kind p bits out₀ from at₀ offset₀ out at offset = length p - offset
+
+pub all-spec : {M : Type 1} → statement M
+all-spec =
+    tie.close
+    (tie.spec
+    Inv-loop
+    μ-loop
+    (λ c. search needs)
+    (λ c κs. search needs)
+    (λ c κs. search needs)
+    (λ c. search needs)
+    (λ c. search needs)
+    (λ c. search needs)
+    (λ c. search needs))

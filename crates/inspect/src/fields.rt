@@ -1,0 +1,207 @@
+// The fixed fields of each kind's record as numbers, in the order in which they are shown.
+use crate::form::value;
+use bio::BioMatchR;
+use bio::BioMatchRRead;
+use bio::BioReadR;
+use bio::BioReadRRead;
+use biometric::BioHead;
+use biometric::BioMatch;
+use biometric::BioMatchRead;
+use biometric::BioRead;
+use biometric::BioReadRead;
+use file_transfer::FileTransfer;
+use file_transfer::FileTransferRead;
+use led::LedRecord;
+use led::LedStep;
+use mfg::Mfg;
+use mfg::MfgRead;
+use nak::Nak;
+use nak::NakRead;
+use osdp::Kind;
+use output::OutputRead;
+use output::OutputRecord;
+use raw_card::Fmt;
+use raw_card::FmtRead;
+use raw_card::Raw;
+use raw_card::RawRead;
+use text::Text;
+use text::TextRead;
+use xrd::Xrd;
+use xrd::XrdRead;
+
+// As many as LED has: a list filled up with 0.
+fn padded(values: &[u64]) -> [u64; 15] {
+    let mut all = [0; 15];
+    let mut i: usize = 0;
+    while i < 15 {
+        all[i] = value(values, i);
+        i += 1;
+    }
+    all
+}
+
+// The record at an offset: its number, the offset and the fields.
+fn led(p: &[u8], offset: usize) -> [u64; 15] {
+    let LedStep::Record(r) = LedRecord::decode_at(p, offset) else {
+        return [0; 15];
+    };
+    let t = r.temporary;
+    let u = r.permanent;
+    let on_color = t.on_color;
+    let off_color = t.off_color;
+    let then_on_color = u.on_color;
+    let then_off_color = u.off_color;
+    let on = on_color.as_byte() as u64;
+    let off = off_color.as_byte() as u64;
+    let then_on = then_on_color.as_byte() as u64;
+    let then_off = then_off_color.as_byte() as u64;
+    [
+        (offset / LedRecord::WIRE_LEN) as u64,
+        offset as u64,
+        r.reader as u64,
+        r.led as u64,
+        t.control as u64,
+        t.on_time as u64,
+        t.off_time as u64,
+        on,
+        off,
+        t.timer as u64,
+        u.control as u64,
+        u.on_time as u64,
+        u.off_time as u64,
+        then_on,
+        then_off,
+    ]
+}
+
+fn output(p: &[u8], offset: usize) -> [u64; 15] {
+    let OutputRead::Read(r) = OutputRecord::decode_at(p, offset) else {
+        return [0; 15];
+    };
+    let control = r.code;
+    let code = control.as_byte() as u64;
+    padded(
+        &[
+            (offset / OutputRecord::WIRE_LEN) as u64,
+            offset as u64,
+            r.output as u64,
+            code,
+            r.timer as u64,
+        ],
+    )
+}
+
+fn text(p: &[u8]) -> [u64; 15] {
+    let TextRead::Read(t) = Text::decode(p) else {
+        return [0; 15];
+    };
+    let asked = t.command;
+    let command = asked.as_byte() as u64;
+    padded(
+        &[
+            t.reader as u64,
+            command,
+            t.temp_time_s as u64,
+            t.row as u64,
+            t.column as u64,
+        ],
+    )
+}
+
+fn bio_head(h: BioHead) -> [u64; 15] {
+    let of_type = h.bio_type;
+    let in_format = h.bio_format;
+    let bio_type = of_type.as_byte() as u64;
+    let bio_format = in_format.as_byte() as u64;
+    padded(&[h.reader as u64, bio_type, bio_format, h.quality as u64])
+}
+
+fn bio_read(p: &[u8]) -> [u64; 15] {
+    match BioRead::decode(p) {
+        BioReadRead::Read(r) => bio_head(r.head),
+        BioReadRead::Refused(_) => [0; 15],
+    }
+}
+
+fn bio_match(p: &[u8]) -> [u64; 15] {
+    match BioMatch::decode(p) {
+        BioMatchRead::Read(r) => bio_head(r.head),
+        BioMatchRead::Refused(_) => [0; 15],
+    }
+}
+
+fn bio_read_r(p: &[u8]) -> [u64; 15] {
+    match BioReadR::decode(p) {
+        BioReadRRead::Read(r) => bio_head(r.head),
+        BioReadRRead::Refused(_) => [0; 15],
+    }
+}
+
+fn file_transfer(p: &[u8]) -> [u64; 15] {
+    let FileTransferRead::Read(r) = FileTransfer::decode(p) else {
+        return [0; 15];
+    };
+    padded(&[r.file_type as u64, r.total_size as u64, r.offset as u64])
+}
+
+fn mfg(p: &[u8]) -> [u64; 15] {
+    let MfgRead::Read(r) = Mfg::decode(p) else {
+        return [0; 15];
+    };
+    padded(&[r.oui_0 as u64, r.oui_1 as u64, r.oui_2 as u64])
+}
+
+fn raw(p: &[u8]) -> [u64; 15] {
+    let RawRead::Read(r) = Raw::decode(p) else {
+        return [0; 15];
+    };
+    padded(&[r.reader as u64, r.format_code as u64, r.bit_count as u64])
+}
+
+fn fmt(p: &[u8]) -> [u64; 15] {
+    let FmtRead::Read(r) = Fmt::decode(p) else {
+        return [0; 15];
+    };
+    padded(&[r.reader as u64, r.direction as u64, r.char_count as u64])
+}
+
+fn bio_match_r(p: &[u8]) -> [u64; 15] {
+    let BioMatchRRead::Read(r) = BioMatchR::decode(p) else {
+        return [0; 15];
+    };
+    padded(&[r.reader as u64, r.result as u64, r.score as u64])
+}
+
+fn nak(p: &[u8]) -> [u64; 15] {
+    let NakRead::Read(r) = Nak::decode(p) else {
+        return [0; 15];
+    };
+    let named = r.error;
+    let error = named.as_byte() as u64;
+    padded(&[error])
+}
+
+fn xrd(p: &[u8]) -> [u64; 15] {
+    let XrdRead::Read(r) = Xrd::decode(p) else {
+        return [0; 15];
+    };
+    padded(&[r.mode as u64])
+}
+
+pub fn of(kind: Kind, p: &[u8], offset: usize) -> [u64; 15] {
+    match kind {
+        Kind::Led => led(p, offset),
+        Kind::Out => output(p, offset),
+        Kind::Text => text(p),
+        Kind::BioRead => bio_read(p),
+        Kind::BioMatch => bio_match(p),
+        Kind::FileTransfer => file_transfer(p),
+        Kind::Mfg => mfg(p),
+        Kind::Raw => raw(p),
+        Kind::Fmt => fmt(p),
+        Kind::BioReadR => bio_read_r(p),
+        Kind::BioMatchR => bio_match_r(p),
+        Kind::Nak => nak(p),
+        Kind::Xrd => xrd(p),
+    }
+}

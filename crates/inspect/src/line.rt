@@ -1,0 +1,230 @@
+// A line of the input, taken byte by byte: `command` or `reply`, the code byte, and the payload, all bytes in hex.
+use std::num::wrapping_add_usize;
+
+// The longest payload that is taken: one byte above what the library takes, so that row 28 can be seen.
+pub const LONGEST: usize = 65547;
+
+// What is wrong with a line.
+pub enum Fault {
+    Word,
+    NoCode,
+    Code,
+    Digit,
+    Odd,
+    TooLong,
+}
+
+// What the next byte belongs to.
+pub enum Place {
+    Start,
+    Word,
+    Gap,
+    Code,
+    Payload,
+    // the second digit of a byte
+    Half,
+    // the rest is passed over: nothing stood before it, a payload, or a fault
+    Comment,
+    Whole,
+    Bad(Fault),
+}
+
+pub struct Line {
+    // both count from 1; the column is that of the fault, once there is one
+    pub number: usize,
+    pub column: usize,
+    pub place: Place,
+    // the last eight letters of the word, as a number in base 256
+    letters: u64,
+    pub is_command: bool,
+    pub code: u8,
+    // how many digits the code has, and the first digit of a byte
+    digits: u8,
+    half: u8,
+    // the bytes that the payload has, and the last of them
+    pub len: usize,
+    pub byte: u8,
+}
+
+// The letters of `command` and of `reply`.
+const COMMAND: u64 = 0x63_6F_6D_6D_61_6E_64;
+
+const REPLY: u64 = 0x72_65_70_6C_79;
+
+const NO_DIGIT: u8 = 16;
+
+fn digit(b: u8) -> u8 {
+    match b {
+        b'0'..=b'9' => b - b'0',
+        b'a'..=b'f' => b - b'a' + 10,
+        b'A'..=b'F' => b - b'A' + 10,
+        _ => NO_DIGIT,
+    }
+}
+
+// The byte of two digits.
+fn joined(high: u8, low: u8) -> u8 {
+    high % 16 * 16 + low % 16
+}
+
+fn is_blank(b: u8) -> bool {
+    match b {
+        b' ' | b'\t' | b'\r' => true,
+        _ => false,
+    }
+}
+
+impl Line {
+    pub fn new(number: usize) -> Line {
+        Line {
+            number,
+            column: 0,
+            place: Place::Start,
+            letters: 0,
+            is_command: false,
+            code: 0,
+            digits: 0,
+            half: 0,
+            len: 0,
+            byte: 0,
+        }
+    }
+
+    fn at(self, place: Place) -> Line {
+        Line {
+            number: self.number,
+            column: self.column,
+            place,
+            letters: self.letters,
+            is_command: self.is_command,
+            code: self.code,
+            digits: self.digits,
+            half: self.half,
+            len: self.len,
+            byte: self.byte,
+        }
+    }
+
+    fn bad(self, fault: Fault) -> Line {
+        self.at(Place::Bad(fault))
+    }
+
+    // The line after one more byte, which does not end it.
+    pub fn step(mut self, b: u8) -> Line {
+        let place = self.place;
+        match place {
+            Place::Comment | Place::Whole | Place::Bad(_) => return self,
+            _ => {}
+        }
+        self.column = wrapping_add_usize(self.column, 1);
+        match place {
+            Place::Start => self.start(b),
+            Place::Word => self.word(b),
+            Place::Gap => self.gap(b),
+            Place::Code => self.code_digit(b),
+            Place::Payload => self.payload(b),
+            Place::Half => self.second(b),
+            Place::Comment | Place::Whole | Place::Bad(_) => self,
+        }
+    }
+
+    fn start(self, b: u8) -> Line {
+        if is_blank(b) {
+            return self;
+        }
+        if b == b'#' {
+            return self.at(Place::Comment);
+        }
+        self.at(Place::Word).word(b)
+    }
+
+    fn word(mut self, b: u8) -> Line {
+        if is_blank(b) {
+            return self.named();
+        }
+        match b {
+            b'a'..=b'z' => {
+                self.letters = self.letters % 0x1_00_00_00_00_00_00_00 * 256 + b as u64;
+                self
+            }
+            _ => self.bad(Fault::Word),
+        }
+    }
+
+    // After the word.
+    fn named(mut self) -> Line {
+        let letters = self.letters;
+        match letters {
+            COMMAND => {
+                self.is_command = true;
+                self.at(Place::Gap)
+            }
+            REPLY => self.at(Place::Gap),
+            _ => self.bad(Fault::Word),
+        }
+    }
+
+    fn gap(self, b: u8) -> Line {
+        if is_blank(b) {
+            return self;
+        }
+        if b == b'#' {
+            return self.bad(Fault::NoCode);
+        }
+        self.at(Place::Code).code_digit(b)
+    }
+
+    fn code_digit(mut self, b: u8) -> Line {
+        let d = digit(b);
+        let digits = self.digits;
+        match digits {
+            0 | 1 => {
+                if d == NO_DIGIT {
+                    return self.bad(Fault::Code);
+                }
+                self.code = joined(self.code, d);
+                self.digits = digits + 1;
+                self
+            }
+            _ => {
+                if is_blank(b) {
+                    self.at(Place::Payload)
+                } else {
+                    self.bad(Fault::Code)
+                }
+            }
+        }
+    }
+
+    fn payload(mut self, b: u8) -> Line {
+        if is_blank(b) {
+            return self;
+        }
+        if b == b'#' {
+            return self.at(Place::Whole);
+        }
+        let d = digit(b);
+        if d == NO_DIGIT {
+            return self.bad(Fault::Digit);
+        }
+        self.half = d;
+        self.at(Place::Half)
+    }
+
+    fn second(mut self, b: u8) -> Line {
+        let d = digit(b);
+        if d == NO_DIGIT {
+            if is_blank(b) {
+                return self.bad(Fault::Odd);
+            }
+            return self.bad(Fault::Digit);
+        }
+        let len = self.len;
+        if LONGEST <= len {
+            return self.bad(Fault::TooLong);
+        }
+        self.len = len + 1;
+        self.byte = joined(self.half, d);
+        self.at(Place::Payload)
+    }
+}

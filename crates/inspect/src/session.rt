@@ -1,0 +1,154 @@
+// The lines of the input, one after another, and how many of each sort there were.
+use crate::answer::show;
+use crate::form::form;
+use crate::form::nth;
+use crate::line::Fault;
+use crate::line::Line;
+use crate::line::Place;
+use std::num::wrapping_add_u64;
+use std::num::wrapping_add_usize;
+
+pub struct Session {
+    pub line: Line,
+    // how much of the output buffer is in use
+    pub at: usize,
+    read: u64,
+    refused: u64,
+    bad: u64,
+}
+
+fn fault_place(f: Fault) -> u64 {
+    match f {
+        Fault::Word => 0,
+        Fault::NoCode => 1,
+        Fault::Code => 2,
+        Fault::Digit => 3,
+        Fault::Odd => 4,
+        Fault::TooLong => 5,
+    }
+}
+
+// Keeps the byte that a line has after one more byte of the input, and had not before.
+fn keep(before: usize, line: Line, payload: &mut [u8]) {
+    if line.len <= before {
+        return;
+    }
+    if before < payload.len() {
+        payload[before] = line.byte;
+    }
+}
+
+impl Session {
+    pub fn new() -> Session {
+        Session {
+            line: Line::new(1),
+            at: 0,
+            read: 0,
+            refused: 0,
+            bad: 0,
+        }
+    }
+
+    // A line that is no payload.
+    fn complain(mut self, f: Fault, out: &mut [u8]) -> Session {
+        let line = self.line;
+        let values = [line.number as u64, line.column as u64, fault_place(f)];
+        self.at = form(b"line %d, column %d: %e\n", &values, b"", out, self.at);
+        self.bad = wrapping_add_u64(self.bad, 1);
+        self
+    }
+
+    fn answer(mut self, payload: &[u8], space: &mut [u8], out: &mut [u8]) -> Session {
+        let line = self.line;
+        let n = line.len;
+        if payload.len() < n {
+            return self;
+        }
+        let shown = show(line, &payload[0..n], space, out, self.at);
+        self.at = shown.at;
+        if shown.is_refused {
+            self.refused = wrapping_add_u64(self.refused, 1);
+        } else {
+            self.read = wrapping_add_u64(self.read, 1);
+        }
+        self
+    }
+
+    // A line's end: a blank completes what it ends in.
+    pub fn end_line(self, payload: &[u8], space: &mut [u8], out: &mut [u8]) -> Session {
+        let line = self.line.step(b' ');
+        let ended = self.with(line);
+        let place = line.place;
+        match place {
+            Place::Payload | Place::Whole => ended.answer(payload, space, out),
+            Place::Gap => ended.complain(Fault::NoCode, out),
+            Place::Bad(f) => ended.complain(f, out),
+            _ => ended,
+        }
+    }
+
+    fn with(self, line: Line) -> Session {
+        Session {
+            line,
+            at: self.at,
+            read: self.read,
+            refused: self.refused,
+            bad: self.bad,
+        }
+    }
+
+    // One more byte of the input.
+    fn byte(self, b: u8, payload: &mut [u8], space: &mut [u8], out: &mut [u8]) -> Session {
+        let line = self.line;
+        if b == b'\n' {
+            let ended = self.end_line(payload, space, out);
+            return ended.with(Line::new(wrapping_add_usize(line.number, 1)));
+        }
+        let next = line.step(b);
+        keep(line.len, next, payload);
+        self.with(next)
+    }
+
+    pub fn bytes(
+        self,
+        input: &[u8],
+        payload: &mut [u8],
+        space: &mut [u8],
+        out: &mut [u8],
+    ) -> Session {
+        let mut s = self;
+        let mut i: usize = 0;
+        while i < input.len() {
+            s = s.byte(input[i], &mut *payload, &mut *space, &mut *out);
+            i += 1;
+        }
+        s
+    }
+
+    fn is_empty(self) -> bool {
+        if self.read != 0 {
+            return false;
+        }
+        if self.refused != 0 {
+            return false;
+        }
+        self.bad == 0
+    }
+
+    // The counts, after the last line.
+    pub fn close(self, out: &mut [u8]) -> usize {
+        let empty = if self.is_empty() { 1 } else { 0 };
+        let template = nth(
+            empty,
+            b"read %d, refused %d, bad lines %d\n.no payload in the input\n.",
+            b'.',
+        );
+        form(
+            template,
+            &[self.read, self.refused, self.bad],
+            b"",
+            out,
+            self.at,
+        )
+    }
+}
