@@ -173,7 +173,8 @@ def page():
         yield ""
         yield "## Instructions"
         yield ""
-        yield "Of one call, by `valgrind --tool=callgrind`, on the same payloads. They do not depend on the machine's load or on the code's place."
+        yield "Of one call, by `valgrind --tool=callgrind`, on the same payloads. They do not depend on the machine's load or on the code's place. A long copy by"
+        yield "the C library, which both sides make, counts as one instruction a byte."
         yield ""
         yield from instructions()
 
