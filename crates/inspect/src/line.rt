@@ -19,7 +19,9 @@ pub enum Place {
     Start,
     Word,
     Gap,
+    // the second digit of the code, and the blank after it
     Code,
+    Coded,
     Payload,
     // the second digit of a byte
     Half,
@@ -38,8 +40,7 @@ pub struct Line {
     letters: u64,
     pub is_command: bool,
     pub code: u8,
-    // how many digits the code has, and the first digit of a byte
-    digits: u8,
+    // the first digit of a byte
     half: u8,
     // the bytes that the payload has, and the last of them
     pub len: usize,
@@ -83,7 +84,6 @@ impl Line {
             letters: 0,
             is_command: false,
             code: 0,
-            digits: 0,
             half: 0,
             len: 0,
             byte: 0,
@@ -98,7 +98,6 @@ impl Line {
             letters: self.letters,
             is_command: self.is_command,
             code: self.code,
-            digits: self.digits,
             half: self.half,
             len: self.len,
             byte: self.byte,
@@ -109,21 +108,23 @@ impl Line {
         self.at(Place::Bad(fault))
     }
 
+    fn next_column(mut self) -> Line {
+        self.column = wrapping_add_usize(self.column, 1);
+        self
+    }
+
     // The line after one more byte, which does not end it.
-    pub fn step(mut self, b: u8) -> Line {
+    pub fn step(self, b: u8) -> Line {
+        let next = self.next_column();
         let place = self.place;
         match place {
-            Place::Comment | Place::Whole | Place::Bad(_) => return self,
-            _ => {}
-        }
-        self.column = wrapping_add_usize(self.column, 1);
-        match place {
-            Place::Start => self.start(b),
-            Place::Word => self.word(b),
-            Place::Gap => self.gap(b),
-            Place::Code => self.code_digit(b),
-            Place::Payload => self.payload(b),
-            Place::Half => self.second(b),
+            Place::Start => next.start(b),
+            Place::Word => next.word(b),
+            Place::Gap => next.gap(b),
+            Place::Code => next.code(b),
+            Place::Coded => next.coded(b),
+            Place::Payload => next.payload(b),
+            Place::Half => next.second(b),
             Place::Comment | Place::Whole | Place::Bad(_) => self,
         }
     }
@@ -164,6 +165,16 @@ impl Line {
         }
     }
 
+    // The first digit of a byte.
+    fn first(mut self, b: u8, next: Place, fault: Fault) -> Line {
+        let d = digit(b);
+        if d == NO_DIGIT {
+            return self.bad(fault);
+        }
+        self.half = d;
+        self.at(next)
+    }
+
     fn gap(self, b: u8) -> Line {
         if is_blank(b) {
             return self;
@@ -171,52 +182,42 @@ impl Line {
         if b == b'#' {
             return self.bad(Fault::NoCode);
         }
-        self.at(Place::Code).code_digit(b)
+        self.first(b, Place::Code, Fault::Code)
     }
 
-    fn code_digit(mut self, b: u8) -> Line {
+    fn code(mut self, b: u8) -> Line {
         let d = digit(b);
-        let digits = self.digits;
-        match digits {
-            0 | 1 => {
-                if d == NO_DIGIT {
-                    return self.bad(Fault::Code);
-                }
-                self.code = joined(self.code, d);
-                self.digits = digits + 1;
-                self
-            }
-            _ => {
-                if is_blank(b) {
-                    self.at(Place::Payload)
-                } else {
-                    self.bad(Fault::Code)
-                }
-            }
+        if d == NO_DIGIT {
+            return self.bad(Fault::Code);
+        }
+        self.code = joined(self.half, d);
+        self.at(Place::Coded)
+    }
+
+    fn coded(self, b: u8) -> Line {
+        if is_blank(b) {
+            self.at(Place::Payload)
+        } else {
+            self.bad(Fault::Code)
         }
     }
 
-    fn payload(mut self, b: u8) -> Line {
+    fn payload(self, b: u8) -> Line {
         if is_blank(b) {
             return self;
         }
         if b == b'#' {
             return self.at(Place::Whole);
         }
-        let d = digit(b);
-        if d == NO_DIGIT {
-            return self.bad(Fault::Digit);
-        }
-        self.half = d;
-        self.at(Place::Half)
+        self.first(b, Place::Half, Fault::Digit)
     }
 
     fn second(mut self, b: u8) -> Line {
+        if is_blank(b) {
+            return self.bad(Fault::Odd);
+        }
         let d = digit(b);
         if d == NO_DIGIT {
-            if is_blank(b) {
-                return self.bad(Fault::Odd);
-            }
             return self.bad(Fault::Digit);
         }
         let len = self.len;

@@ -7,6 +7,7 @@ mod out;
 mod record;
 mod session;
 
+use crate::line::LONGEST;
 use crate::session::Session;
 use libc::STDERR_FILENO;
 use libc::STDIN_FILENO;
@@ -64,8 +65,8 @@ fn read(fd: i32, input: &mut [u8]) -> usize
 
 fn inspect(fd: i32) {
     let mut input = io::large_buffer();
-    let mut payload = [0u8; 65547];
-    let mut space = [0u8; 65547];
+    let mut payload = [0u8; LONGEST];
+    let mut space = [0u8; LONGEST];
     let mut out = io::large_buffer();
     let ended = all(fd, &mut input, &mut payload, &mut space, &mut out);
     let at = ended.close(&mut out);
