@@ -1,5 +1,4 @@
 // The fixed fields of each kind's record as numbers, in the order in which they are shown.
-use crate::form::value;
 use bio::BioMatchR;
 use bio::BioMatchRRead;
 use bio::BioReadR;
@@ -29,15 +28,9 @@ use text::TextRead;
 use xrd::Xrd;
 use xrd::XrdRead;
 
-// As many as LED has: a list filled up with 0.
-fn padded(values: &[u64]) -> [u64; 15] {
-    let mut all = [0; 15];
-    let mut i: usize = 0;
-    while i < 15 {
-        all[i] = value(values, i);
-        i += 1;
-    }
-    all
+// Up to five values, and zeros: LED has more than the others.
+fn five(a: u64, b: u64, c: u64, d: u64, e: u64) -> [u64; 15] {
+    [a, b, c, d, e, 0, 0, 0, 0, 0, 0, 0, 0, 0, 0]
 }
 
 // The record at an offset: its number, the offset and the fields.
@@ -80,14 +73,12 @@ fn output(p: &[u8], offset: usize) -> [u64; 15] {
     };
     let control = r.code;
     let code = control.as_byte() as u64;
-    padded(
-        &[
-            (offset / OutputRecord::WIRE_LEN) as u64,
-            offset as u64,
-            r.output as u64,
-            code,
-            r.timer as u64,
-        ],
+    five(
+        (offset / OutputRecord::WIRE_LEN) as u64,
+        offset as u64,
+        r.output as u64,
+        code,
+        r.timer as u64,
     )
 }
 
@@ -97,14 +88,12 @@ fn text(p: &[u8]) -> [u64; 15] {
     };
     let asked = t.command;
     let command = asked.as_byte() as u64;
-    padded(
-        &[
-            t.reader as u64,
-            command,
-            t.temp_time_s as u64,
-            t.row as u64,
-            t.column as u64,
-        ],
+    five(
+        t.reader as u64,
+        command,
+        t.temp_time_s as u64,
+        t.row as u64,
+        t.column as u64,
     )
 }
 
@@ -113,7 +102,7 @@ fn bio_head(h: BioHead) -> [u64; 15] {
     let in_format = h.bio_format;
     let bio_type = of_type.as_byte() as u64;
     let bio_format = in_format.as_byte() as u64;
-    padded(&[h.reader as u64, bio_type, bio_format, h.quality as u64])
+    five(h.reader as u64, bio_type, bio_format, h.quality as u64, 0)
 }
 
 fn bio_read(p: &[u8]) -> [u64; 15] {
@@ -141,35 +130,53 @@ fn file_transfer(p: &[u8]) -> [u64; 15] {
     let FileTransferRead::Read(r) = FileTransfer::decode(p) else {
         return [0; 15];
     };
-    padded(&[r.file_type as u64, r.total_size as u64, r.offset as u64])
+    five(
+        r.file_type as u64,
+        r.total_size as u64,
+        r.offset as u64,
+        0,
+        0,
+    )
 }
 
 fn mfg(p: &[u8]) -> [u64; 15] {
     let MfgRead::Read(r) = Mfg::decode(p) else {
         return [0; 15];
     };
-    padded(&[r.oui_0 as u64, r.oui_1 as u64, r.oui_2 as u64])
+    five(r.oui_0 as u64, r.oui_1 as u64, r.oui_2 as u64, 0, 0)
 }
 
 fn raw(p: &[u8]) -> [u64; 15] {
     let RawRead::Read(r) = Raw::decode(p) else {
         return [0; 15];
     };
-    padded(&[r.reader as u64, r.format_code as u64, r.bit_count as u64])
+    five(
+        r.reader as u64,
+        r.format_code as u64,
+        r.bit_count as u64,
+        0,
+        0,
+    )
 }
 
 fn fmt(p: &[u8]) -> [u64; 15] {
     let FmtRead::Read(r) = Fmt::decode(p) else {
         return [0; 15];
     };
-    padded(&[r.reader as u64, r.direction as u64, r.char_count as u64])
+    five(
+        r.reader as u64,
+        r.direction as u64,
+        r.char_count as u64,
+        0,
+        0,
+    )
 }
 
 fn bio_match_r(p: &[u8]) -> [u64; 15] {
     let BioMatchRRead::Read(r) = BioMatchR::decode(p) else {
         return [0; 15];
     };
-    padded(&[r.reader as u64, r.result as u64, r.score as u64])
+    five(r.reader as u64, r.result as u64, r.score as u64, 0, 0)
 }
 
 fn nak(p: &[u8]) -> [u64; 15] {
@@ -178,14 +185,14 @@ fn nak(p: &[u8]) -> [u64; 15] {
     };
     let named = r.error;
     let error = named.as_byte() as u64;
-    padded(&[error])
+    five(error, 0, 0, 0, 0)
 }
 
 fn xrd(p: &[u8]) -> [u64; 15] {
     let XrdRead::Read(r) = Xrd::decode(p) else {
         return [0; 15];
     };
-    padded(&[r.mode as u64])
+    five(r.mode as u64, 0, 0, 0, 0)
 }
 
 pub fn of(kind: Kind, p: &[u8], offset: usize) -> [u64; 15] {

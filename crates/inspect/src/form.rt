@@ -42,12 +42,12 @@ pub fn nth(n: u64, list: &[u8], end: u8) -> &[u8] {
 // Which line of the names a letter stands for.
 fn line_of(letter: u8) -> u64 {
     match letter {
-        b'c' => 0,
-        b'o' => 1,
-        b't' => 2,
-        b'b' => 3,
-        b'f' => 4,
-        b'n' => 5,
+        b'C' => 0,
+        b'O' => 1,
+        b'T' => 2,
+        b'B' => 3,
+        b'F' => 4,
+        b'N' => 5,
         b'k' => 6,
         b'w' => 7,
         b'y' => 8,
@@ -102,12 +102,12 @@ fn item(letter: u8, n: u64, tail: &[u8], out: &mut [u8], at: usize) -> usize {
         b's' => bytes(tail, Shape::Text, out, at),
         b'h' => bytes(tail, Shape::Hex, out, at),
         b'i' => bytes(tail, Shape::Bits, out, at),
-        b'c' | b'o' | b't' | b'b' | b'f' | b'n' => coded(letter, n, out, at),
+        b'A'..=b'Z' => coded(letter, n, out, at),
         _ => name(letter, n, out, at),
     }
 }
 
-pub fn value(values: &[u64], k: usize) -> u64 {
+fn value(values: &[u64], k: usize) -> u64 {
     if k < values.len() { values[k] } else { 0 }
 }
 
@@ -126,9 +126,8 @@ fn piece(b: u8, is_letter: bool, n: u64, tail: &[u8], out: &mut [u8], at: usize)
     put(b, out, at)
 }
 
-// Puts a template's words. A letter after % takes the next value: %d as a decimal number, %x as two hex digits, other letters as the name
-// that their line has for it, after its number where it is a code; %s, %h and %i show the tail as text, in hex and as bits, and take a
-// value too.
+// Puts a template's words. A letter after % takes the next value: %d as a decimal number, %x as two hex digits, a capital as a code's
+// number and name, other letters as the name alone; %s, %h and %i show the tail as text, in hex and as bits, and take a value too.
 pub fn form(template: &[u8], values: &[u64], tail: &[u8], out: &mut [u8], from: usize) -> usize {
     let mut at = from;
     let mut k: usize = 0;

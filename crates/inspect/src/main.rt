@@ -32,7 +32,7 @@ fn help() {
 }
 
 // The payloads of an open file, up to its end or to a read that fails.
-fn all(fd: i32, input: &mut [u8], payload: &mut [u8], space: &mut [u8], out: &mut [u8]) -> Session {
+fn all(fd: i32, input: &mut [u8], payload: &mut [u8], space: &mut [u8], out: &mut [u8]) -> usize {
     let mut s = Session::new();
     let mut reads = u64::MAX;
     while reads > 0 {
@@ -40,7 +40,7 @@ fn all(fd: i32, input: &mut [u8], payload: &mut [u8], space: &mut [u8], out: &mu
         s = s.bytes(&input[0..n], &mut *payload, &mut *space, &mut *out);
         reads = left(reads, n);
     }
-    s.end_line(payload, space, out)
+    s.close(payload, space, out)
 }
 
 // The reads that are left after one that brought so many bytes.
@@ -68,8 +68,7 @@ fn inspect(fd: i32) {
     let mut payload = [0u8; LONGEST];
     let mut space = [0u8; LONGEST];
     let mut out = io::large_buffer();
-    let ended = all(fd, &mut input, &mut payload, &mut space, &mut out);
-    let at = ended.close(&mut out);
+    let at = all(fd, &mut input, &mut payload, &mut space, &mut out);
     out::flush(&out, at);
 }
 

@@ -49,19 +49,19 @@ fn record<'a>(
         place(kind),
         b".\
           \x20 record %d at offset %d: reader %d, led %d\n\
-          \x20   temporary: control %d, on_time %d, off_time %d, on_color %c, off_color %c, timer %d\n\
-          \x20   permanent: control %d, on_time %d, off_time %d, on_color %c, off_color %c\n.\
-          \x20 record %d at offset %d: output %d, code %o, timer %d\n.\
-          \x20 reader %d, command %t, temp_time_s %d, row %d, column %d\n  text: %s\n.\
-          \x20 reader %d, bio_type %b, bio_format %f, quality %d\n.\
-          \x20 reader %d, bio_type %b, bio_format %f, quality %d\n  template:%h\n.\
+          \x20   temporary: control %d, on_time %d, off_time %d, on_color %C, off_color %C, timer %d\n\
+          \x20   permanent: control %d, on_time %d, off_time %d, on_color %C, off_color %C\n.\
+          \x20 record %d at offset %d: output %d, code %O, timer %d\n.\
+          \x20 reader %d, command %T, temp_time_s %d, row %d, column %d\n  text: %s\n.\
+          \x20 reader %d, bio_type %B, bio_format %F, quality %d\n.\
+          \x20 reader %d, bio_type %B, bio_format %F, quality %d\n  template:%h\n.\
           \x20 file_type %d, total_size %d, offset %d\n  fragment:%h\n.\
           \x20 oui %x %x %x\n  payload:%h\n.\
           \x20 reader %d, format_code %d, bit_count %d\n  bits: %i\n.\
           \x20 reader %d, direction %d, char_count %d\n  chars:%h\n  as text: %s\n.\
-          \x20 reader %d, bio_type %b, bio_format %f, quality %d\n  data:%h\n.\
+          \x20 reader %d, bio_type %B, bio_format %F, quality %d\n  data:%h\n.\
           \x20 reader %d, result %d, score %d\n.\
-          \x20 error %n\n  completion_codes:%h\n.\
+          \x20 error %N\n  completion_codes:%h\n.\
           \x20 mode %d\n  payload:%h\n.",
         b'.',
     );

@@ -8,13 +8,17 @@ use crate::line::Place;
 use std::num::wrapping_add_u64;
 use std::num::wrapping_add_usize;
 
-pub struct Session {
-    pub line: Line,
-    // how much of the output buffer is in use
-    pub at: usize,
+// What was shown, and how much of the output buffer is in use.
+pub struct Tally {
+    at: usize,
     read: u64,
     refused: u64,
     bad: u64,
+}
+
+pub struct Session {
+    line: Line,
+    tally: Tally,
 }
 
 fn fault_place(f: Fault) -> u64 {
@@ -25,6 +29,53 @@ fn fault_place(f: Fault) -> u64 {
         Fault::Digit => 3,
         Fault::Odd => 4,
         Fault::TooLong => 5,
+    }
+}
+
+impl Tally {
+    // A line that is no payload.
+    fn complain(mut self, line: Line, f: Fault, out: &mut [u8]) -> Tally {
+        let values = [line.number as u64, line.column as u64, fault_place(f)];
+        self.at = form(b"line %d, column %d: %e\n", &values, b"", out, self.at);
+        self.bad = wrapping_add_u64(self.bad, 1);
+        self
+    }
+
+    fn answer(mut self, line: Line, payload: &[u8], space: &mut [u8], out: &mut [u8]) -> Tally {
+        let n = line.len;
+        if payload.len() < n {
+            return self;
+        }
+        let shown = show(line, &payload[0..n], space, out, self.at);
+        self.at = shown.at;
+        if shown.is_refused {
+            self.refused = wrapping_add_u64(self.refused, 1);
+        } else {
+            self.read = wrapping_add_u64(self.read, 1);
+        }
+        self
+    }
+
+    // A line's end: a blank completes what it ends in.
+    fn end_line(self, line: Line, payload: &[u8], space: &mut [u8], out: &mut [u8]) -> Tally {
+        let ended = line.step(b' ');
+        let place = ended.place;
+        match place {
+            Place::Payload | Place::Whole => self.answer(ended, payload, space, out),
+            Place::Gap => self.complain(ended, Fault::NoCode, out),
+            Place::Bad(f) => self.complain(ended, f, out),
+            _ => self,
+        }
+    }
+
+    fn is_empty(self) -> bool {
+        if self.read != 0 {
+            return false;
+        }
+        if self.refused != 0 {
+            return false;
+        }
+        self.bad == 0
     }
 }
 
@@ -42,71 +93,28 @@ impl Session {
     pub fn new() -> Session {
         Session {
             line: Line::new(1),
-            at: 0,
-            read: 0,
-            refused: 0,
-            bad: 0,
-        }
-    }
-
-    // A line that is no payload.
-    fn complain(mut self, f: Fault, out: &mut [u8]) -> Session {
-        let line = self.line;
-        let values = [line.number as u64, line.column as u64, fault_place(f)];
-        self.at = form(b"line %d, column %d: %e\n", &values, b"", out, self.at);
-        self.bad = wrapping_add_u64(self.bad, 1);
-        self
-    }
-
-    fn answer(mut self, payload: &[u8], space: &mut [u8], out: &mut [u8]) -> Session {
-        let line = self.line;
-        let n = line.len;
-        if payload.len() < n {
-            return self;
-        }
-        let shown = show(line, &payload[0..n], space, out, self.at);
-        self.at = shown.at;
-        if shown.is_refused {
-            self.refused = wrapping_add_u64(self.refused, 1);
-        } else {
-            self.read = wrapping_add_u64(self.read, 1);
-        }
-        self
-    }
-
-    // A line's end: a blank completes what it ends in.
-    pub fn end_line(self, payload: &[u8], space: &mut [u8], out: &mut [u8]) -> Session {
-        let line = self.line.step(b' ');
-        let ended = self.with(line);
-        let place = line.place;
-        match place {
-            Place::Payload | Place::Whole => ended.answer(payload, space, out),
-            Place::Gap => ended.complain(Fault::NoCode, out),
-            Place::Bad(f) => ended.complain(f, out),
-            _ => ended,
-        }
-    }
-
-    fn with(self, line: Line) -> Session {
-        Session {
-            line,
-            at: self.at,
-            read: self.read,
-            refused: self.refused,
-            bad: self.bad,
+            tally: Tally {
+                at: 0,
+                read: 0,
+                refused: 0,
+                bad: 0,
+            },
         }
     }
 
     // One more byte of the input.
     fn byte(self, b: u8, payload: &mut [u8], space: &mut [u8], out: &mut [u8]) -> Session {
         let line = self.line;
+        let tally = self.tally;
         if b == b'\n' {
-            let ended = self.end_line(payload, space, out);
-            return ended.with(Line::new(wrapping_add_usize(line.number, 1)));
+            return Session {
+                line: Line::new(wrapping_add_usize(line.number, 1)),
+                tally: tally.end_line(line, payload, space, out),
+            };
         }
         let next = line.step(b);
         keep(line.len, next, payload);
-        self.with(next)
+        Session { line: next, tally }
     }
 
     pub fn bytes(
@@ -125,19 +133,11 @@ impl Session {
         s
     }
 
-    fn is_empty(self) -> bool {
-        if self.read != 0 {
-            return false;
-        }
-        if self.refused != 0 {
-            return false;
-        }
-        self.bad == 0
-    }
-
-    // The counts, after the last line.
-    pub fn close(self, out: &mut [u8]) -> usize {
-        let empty = if self.is_empty() { 1 } else { 0 };
+    // The last line, and the counts.
+    pub fn close(self, payload: &[u8], space: &mut [u8], out: &mut [u8]) -> usize {
+        let tally = self.tally;
+        let all = tally.end_line(self.line, payload, space, &mut *out);
+        let empty = if all.is_empty() { 1 } else { 0 };
         let template = nth(
             empty,
             b"read %d, refused %d, bad lines %d\n.no payload in the input\n.",
@@ -145,10 +145,10 @@ impl Session {
         );
         form(
             template,
-            &[self.read, self.refused, self.bad],
+            &[all.read, all.refused, all.bad],
             b"",
             out,
-            self.at,
+            all.at,
         )
     }
 }
