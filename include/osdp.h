@@ -11,7 +11,7 @@
  * - No call keeps a pointer, allocates, blocks, or has state: any thread may call any of them at any time, without a lock.
  * - Nothing beyond payload_len and out_len bytes is read or written, whatever the payload holds.
  *
- * Link with libosdp.a; nothing else is needed.
+ * Link with libosdp.a; nothing else is needed. Of the C library it calls memmove alone.
  */
 #ifndef OSDP_H
 #define OSDP_H
