@@ -1,6 +1,5 @@
 // Shows payloads in words: reads lines such as `command 69 00 00 ..` from standard input or from a file.
 mod answer;
-mod fields;
 mod form;
 mod line;
 mod out;

@@ -1,6 +1,5 @@
 // The record that a payload stands for, in words, each field under the Rust's name.
 use crate::answer::place;
-use crate::fields;
 use crate::form::form;
 use crate::form::nth;
 use bio::BioReadR;

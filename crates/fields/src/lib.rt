@@ -27,14 +27,22 @@ use text::Text;
 use text::TextRead;
 use xrd::Xrd;
 use xrd::XrdRead;
+ghost use mathlib.Core.Path.{_≡_};
+ghost use mathlib.Core.List.{[], _∷_};
+ghost use Rattle.osdp.specs.declared.Kind.the-variants as kinds;
+ghost use Rattle.fields.specs.Fields.{headFields, padded, fieldsOf};
 
 // Up to five values, and zeros: LED has more than the others.
-fn five(a: u64, b: u64, c: u64, d: u64, e: u64) -> [u64; 15] {
+fn five(a: u64, b: u64, c: u64, d: u64, e: u64) -> [u64; 15]
+    ensures { λ r. ⌜ r ≡ padded (a ∷ b ∷ c ∷ d ∷ e ∷ []) ⌝ }
+{
     [a, b, c, d, e, 0, 0, 0, 0, 0, 0, 0, 0, 0, 0]
 }
 
 // The record at an offset: its number, the offset and the fields.
-fn led(p: &[u8], offset: usize) -> [u64; 15] {
+fn led(p: &[u8], offset: usize) -> [u64; 15]
+    ensures { λ r. ⌜ r ≡ padded (fieldsOf kinds.Led (now (p .entry)) offset) ⌝ }
+{
     let LedStep::Record(r) = LedRecord::decode_at(p, offset) else {
         return [0; 15];
     };
@@ -67,7 +75,9 @@ fn led(p: &[u8], offset: usize) -> [u64; 15] {
     ]
 }
 
-fn output(p: &[u8], offset: usize) -> [u64; 15] {
+fn output(p: &[u8], offset: usize) -> [u64; 15]
+    ensures { λ r. ⌜ r ≡ padded (fieldsOf kinds.Out (now (p .entry)) offset) ⌝ }
+{
     let OutputRead::Read(r) = OutputRecord::decode_at(p, offset) else {
         return [0; 15];
     };
@@ -82,7 +92,9 @@ fn output(p: &[u8], offset: usize) -> [u64; 15] {
     )
 }
 
-fn text(p: &[u8]) -> [u64; 15] {
+fn text(p: &[u8]) -> [u64; 15]
+    ensures { λ r. ⌜ r ≡ padded (fieldsOf kinds.Text (now (p .entry)) 0) ⌝ }
+{
     let TextRead::Read(t) = Text::decode(p) else {
         return [0; 15];
     };
@@ -97,7 +109,9 @@ fn text(p: &[u8]) -> [u64; 15] {
     )
 }
 
-fn bio_head(h: BioHead) -> [u64; 15] {
+fn bio_head(h: BioHead) -> [u64; 15]
+    ensures { λ r. ⌜ r ≡ padded (headFields h) ⌝ }
+{
     let of_type = h.bio_type;
     let in_format = h.bio_format;
     let bio_type = of_type.as_byte() as u64;
@@ -105,28 +119,36 @@ fn bio_head(h: BioHead) -> [u64; 15] {
     five(h.reader as u64, bio_type, bio_format, h.quality as u64, 0)
 }
 
-fn bio_read(p: &[u8]) -> [u64; 15] {
+fn bio_read(p: &[u8]) -> [u64; 15]
+    ensures { λ r. ⌜ r ≡ padded (fieldsOf kinds.BioRead (now (p .entry)) 0) ⌝ }
+{
     match BioRead::decode(p) {
         BioReadRead::Read(r) => bio_head(r.head),
         BioReadRead::Refused(_) => [0; 15],
     }
 }
 
-fn bio_match(p: &[u8]) -> [u64; 15] {
+fn bio_match(p: &[u8]) -> [u64; 15]
+    ensures { λ r. ⌜ r ≡ padded (fieldsOf kinds.BioMatch (now (p .entry)) 0) ⌝ }
+{
     match BioMatch::decode(p) {
         BioMatchRead::Read(r) => bio_head(r.head),
         BioMatchRead::Refused(_) => [0; 15],
     }
 }
 
-fn bio_read_r(p: &[u8]) -> [u64; 15] {
+fn bio_read_r(p: &[u8]) -> [u64; 15]
+    ensures { λ r. ⌜ r ≡ padded (fieldsOf kinds.BioReadR (now (p .entry)) 0) ⌝ }
+{
     match BioReadR::decode(p) {
         BioReadRRead::Read(r) => bio_head(r.head),
         BioReadRRead::Refused(_) => [0; 15],
     }
 }
 
-fn file_transfer(p: &[u8]) -> [u64; 15] {
+fn file_transfer(p: &[u8]) -> [u64; 15]
+    ensures { λ r. ⌜ r ≡ padded (fieldsOf kinds.FileTransfer (now (p .entry)) 0) ⌝ }
+{
     let FileTransferRead::Read(r) = FileTransfer::decode(p) else {
         return [0; 15];
     };
@@ -139,14 +161,18 @@ fn file_transfer(p: &[u8]) -> [u64; 15] {
     )
 }
 
-fn mfg(p: &[u8]) -> [u64; 15] {
+fn mfg(p: &[u8]) -> [u64; 15]
+    ensures { λ r. ⌜ r ≡ padded (fieldsOf kinds.Mfg (now (p .entry)) 0) ⌝ }
+{
     let MfgRead::Read(r) = Mfg::decode(p) else {
         return [0; 15];
     };
     five(r.oui_0 as u64, r.oui_1 as u64, r.oui_2 as u64, 0, 0)
 }
 
-fn raw(p: &[u8]) -> [u64; 15] {
+fn raw(p: &[u8]) -> [u64; 15]
+    ensures { λ r. ⌜ r ≡ padded (fieldsOf kinds.Raw (now (p .entry)) 0) ⌝ }
+{
     let RawRead::Read(r) = Raw::decode(p) else {
         return [0; 15];
     };
@@ -159,7 +185,9 @@ fn raw(p: &[u8]) -> [u64; 15] {
     )
 }
 
-fn fmt(p: &[u8]) -> [u64; 15] {
+fn fmt(p: &[u8]) -> [u64; 15]
+    ensures { λ r. ⌜ r ≡ padded (fieldsOf kinds.Fmt (now (p .entry)) 0) ⌝ }
+{
     let FmtRead::Read(r) = Fmt::decode(p) else {
         return [0; 15];
     };
@@ -172,14 +200,18 @@ fn fmt(p: &[u8]) -> [u64; 15] {
     )
 }
 
-fn bio_match_r(p: &[u8]) -> [u64; 15] {
+fn bio_match_r(p: &[u8]) -> [u64; 15]
+    ensures { λ r. ⌜ r ≡ padded (fieldsOf kinds.BioMatchR (now (p .entry)) 0) ⌝ }
+{
     let BioMatchRRead::Read(r) = BioMatchR::decode(p) else {
         return [0; 15];
     };
     five(r.reader as u64, r.result as u64, r.score as u64, 0, 0)
 }
 
-fn nak(p: &[u8]) -> [u64; 15] {
+fn nak(p: &[u8]) -> [u64; 15]
+    ensures { λ r. ⌜ r ≡ padded (fieldsOf kinds.Nak (now (p .entry)) 0) ⌝ }
+{
     let NakRead::Read(r) = Nak::decode(p) else {
         return [0; 15];
     };
@@ -188,14 +220,20 @@ fn nak(p: &[u8]) -> [u64; 15] {
     five(error, 0, 0, 0, 0)
 }
 
-fn xrd(p: &[u8]) -> [u64; 15] {
+fn xrd(p: &[u8]) -> [u64; 15]
+    ensures { λ r. ⌜ r ≡ padded (fieldsOf kinds.Xrd (now (p .entry)) 0) ⌝ }
+{
     let XrdRead::Read(r) = Xrd::decode(p) else {
         return [0; 15];
     };
     five(r.mode as u64, 0, 0, 0, 0)
 }
 
-pub fn of(kind: Kind, p: &[u8], offset: usize) -> [u64; 15] {
+// The fields of a payload's record, or zeros where it has none. Of LED and OUT that is the record at the offset, after its number and the
+// offset; of the others the offset says nothing.
+pub fn of(kind: Kind, p: &[u8], offset: usize) -> [u64; 15]
+    ensures { λ r. ⌜ r ≡ padded (fieldsOf kind (now (p .entry)) offset) ⌝ }
+{
     match kind {
         Kind::Led => led(p, offset),
         Kind::Out => output(p, offset),
