@@ -1,13 +1,13 @@
 // Shows payloads in words: reads lines such as `command 69 00 00 ..` from standard input or from a file.
 mod answer;
 mod form;
+mod input;
 mod line;
 mod out;
 mod record;
-mod session;
 
+use crate::input::Input;
 use crate::line::LONGEST;
-use crate::session::Session;
 use libc::STDERR_FILENO;
 use libc::STDIN_FILENO;
 use libc::STDOUT_FILENO;
@@ -32,7 +32,7 @@ fn help() {
 
 // The payloads of an open file, up to its end or to a read that fails.
 fn all(fd: i32, input: &mut [u8], payload: &mut [u8], space: &mut [u8], out: &mut [u8]) -> usize {
-    let mut s = Session::new();
+    let mut s = Input::new();
     let mut reads = u64::MAX;
     while reads > 0 {
         let n = read(fd, &mut *input);

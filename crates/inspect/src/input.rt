@@ -16,7 +16,8 @@ pub struct Tally {
     bad: u64,
 }
 
-pub struct Session {
+// Where the input stands: the line so far, and what was shown of those before it.
+pub struct Input {
     line: Line,
     tally: Tally,
 }
@@ -89,9 +90,9 @@ fn keep(before: usize, line: Line, payload: &mut [u8]) {
     }
 }
 
-impl Session {
-    pub fn new() -> Session {
-        Session {
+impl Input {
+    pub fn new() -> Input {
+        Input {
             line: Line::new(1),
             tally: Tally {
                 at: 0,
@@ -103,18 +104,18 @@ impl Session {
     }
 
     // One more byte of the input.
-    fn byte(self, b: u8, payload: &mut [u8], space: &mut [u8], out: &mut [u8]) -> Session {
+    fn byte(self, b: u8, payload: &mut [u8], space: &mut [u8], out: &mut [u8]) -> Input {
         let line = self.line;
         let tally = self.tally;
         if b == b'\n' {
-            return Session {
+            return Input {
                 line: Line::new(wrapping_add_usize(line.number, 1)),
                 tally: tally.end_line(line, payload, space, out),
             };
         }
         let next = line.step(b);
         keep(line.len, next, payload);
-        Session { line: next, tally }
+        Input { line: next, tally }
     }
 
     pub fn bytes(
@@ -123,7 +124,7 @@ impl Session {
         payload: &mut [u8],
         space: &mut [u8],
         out: &mut [u8],
-    ) -> Session {
+    ) -> Input {
         let mut s = self;
         let mut i: usize = 0;
         while i < input.len() {
