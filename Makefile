@@ -2,15 +2,17 @@
 RUST =
 SCALE =
 SEED =
+BESIDE =
 LIB := target/staticlib/libosdp.a
 
-.PHONY: help run inputs lib example test compare compare-vectors compare-calls bench performance proof-map clean
+.PHONY: help run inputs lib lib-selftest example test compare compare-vectors compare-calls bench performance proof-map clean
 
 help:
 	@echo "make run          proves and builds inspect, and shows the sample payloads with it"
 	@echo "make inputs       inspect on bad lines, bad files, every code, the longest payloads, and many lines"
 	@echo "make test         the gate: proves every crate from nothing, tries the must-fail edits, runs the programs (.ci/run)"
-	@echo "make lib          proves osdp and writes $(LIB); the header is include/osdp.h"
+	@echo "make lib          proves osdp and writes $(LIB); the header is include/osdp.h; holds its stack, outside symbols and writable data to limits"
+	@echo "  lib-selftest      whether that last check can fail"
 	@echo "make example      builds and runs examples/c with gcc, and with clang where there is one"
 	@echo "make compare      against the original Rust: compare-vectors, then compare-calls"
 	@echo "  compare-vectors   the Rust's answers to generated cases, replayed by the program vectors"
@@ -21,6 +23,7 @@ help:
 	@echo "make clean        removes build/"
 	@echo
 	@echo "RUST=FOLDER  where the original Rust is (Quantumlyy/osdp-rs at 8e2b7c7df1); by default ../shared/docs/src beside this repository"
+	@echo "BESIDE=ARCHIVE  another build of the library, which bench measures in the same rounds; RUNS=NUMBER  how many runs bench makes (15)"
 	@echo "SEED=NUMBER  another seed for compare; SCALE=NUMBER  how many cases compare-vectors makes by chance (1000)"
 
 # rt check proves inspect and what it stands on, builds it, and holds what it says of its sample to the stored output.
@@ -33,6 +36,10 @@ inputs:
 	tools/inspect/inputs.py target/bin/inspect "$(RUST)"
 
 lib: $(LIB)
+	tools/lib/check.py $(LIB)
+
+lib-selftest:
+	tools/lib/check.py --selftest
 
 $(LIB): crates.txt $(shell find crates -name '*.rt' -o -name '*.antt')
 	rt staticlib osdp
@@ -54,7 +61,7 @@ compare-calls: $(LIB)
 	tools/compare/run.sh "$(RUST)" "$(SEED)"
 
 bench: $(LIB)
-	tools/bench/run.sh "$(RUST)"
+	tools/bench/run.sh $(if $(BESIDE),--beside "$(BESIDE)") "$(RUST)"
 
 performance: $(LIB)
 	tools/bench/run.sh --docs "$(RUST)"

@@ -8,9 +8,14 @@ from math import log10
 from pathlib import Path
 from statistics import median
 
+sys.dont_write_bytecode = True
+sys.path.insert(0, str(Path(__file__).resolve().parent.parent))
+import kinds
+
 HERE = Path(sys.argv[1])
-COPIED = {"MFG", "XRD", "NAK", "BIOMATCH", "BIOREADR", "FILETRANSFER", "RAW"}  # their tails are copied unread
+COPIED = {k.name for k in kinds.KINDS if k.copied}
 PLACES = ("1", "2")
+LONG = 1024
 
 
 def runs(place):
@@ -56,6 +61,7 @@ N = counts()
 KEYS = list(T["1"])
 KINDS = list(dict.fromkeys(k for k, _ in KEYS))
 SIZES = {k: [n for kind, n in KEYS if kind == k] for k in KINDS}
+BESIDE = "check-beside" in T["1"][KEYS[0]]
 
 
 def both(key, call, rust):
@@ -63,34 +69,84 @@ def both(key, call, rust):
     return [median(r[key][call] / r[key][rust] for r in RUNS[p]) for p in PLACES]
 
 
+def two(key, call, rust):
+    return " · ".join(f"{r:.2f}" for r in both(key, call, rust))
+
+
 def ns(key, call):
     t = min(T[p][key][call] for p in PLACES)
     return f"{t:.1f}" if t < 100 else f"{t:,.0f}"
 
 
+TARGET = (
+    "The target, of the Rust's time: for check at most 0.4; for normalise at most 0.33 up to 64 bytes, 0.15 for LED from 140 bytes on, and 0.5",
+    f"elsewhere; and, of memcpy's time, at most 1.5 at the longest size, where that is {LONG:,} bytes or more and the tail is copied unread.",
+    "A line is given where it is missed at either place.",
+)
+AIM = 0.25  # for what has 0.33 as its target
+NAMES = {"decode": "the Rust's decode", "decode+encode": "the Rust's decode and encode", "memcpy": "memcpy"}
+
+
+def sized(key):
+    return f"{key[0]}, {key[1]:,} byte{'s' if key[1] > 1 else ''}"
+
+
+def targets(kind, size):
+    """call, what it is measured by, and the most that it may take of that"""
+    yield "check", "decode", 0.4
+    if size <= 64:
+        yield "normalise", "decode+encode", 0.33
+    else:
+        yield "normalise", "decode+encode", 0.15 if kind == "LED" and size >= 140 else 0.5
+    if kind in COPIED and LONG <= size == max(SIZES[kind]):
+        yield "normalise", "memcpy", 1.5
+
+
 def shorts():
     """where the targets are missed, at the better of the two places and at the worse"""
-    out = []
     for key in KEYS:
-        for call, rust in (("check", "decode"), ("normalise", "decode+encode")):
-            limit = 1.0 if key[0] == "TEXT" and call == "check" and key[1] > 22 else 0.5
-            r = both(key, call, rust)
+        for call, other, limit in targets(*key):
+            r = both(key, call, other)
             if max(r) > limit:
-                out.append((key, call, f"{min(r):.2f} to {max(r):.2f} of the Rust's time, where {limit:.1f} was to be reached"))
-        if key[0] in COPIED and key[1] == max(SIZES[key[0]]):
-            r = both(key, "normalise", "memcpy")
-            if max(r) > 1.5:
-                out.append((key, "normalise", f"{min(r):.2f} to {max(r):.2f} times memcpy, where 1.5 was to be reached"))
-    return out
+                yield f"{sized(key)}, {call}: {min(r):.2f} to {max(r):.2f} of {NAMES[other]}, where {limit} was to be reached"
+
+
+def aimed():
+    """how many of the short sizes reach the aim at both places"""
+    short = [key for key in KEYS if key[1] <= 64]
+    reached = sum(max(both(key, "normalise", "decode+encode")) <= AIM for key in short)
+    return f"Of the {len(short)} sizes up to 64 bytes, normalise takes at most {AIM} of the Rust's time in {reached}."
+
+
+def over_beside(key, call):
+    """this build over the other, each at its better place, since the two do not stand at the same one"""
+    best = lambda runs, call: min(run[key][call] for run in runs)
+    return median(best(runs, call) / best(runs, call + "-beside") for runs in zip(*RUNS.values()))
+
+
+def beside():
+    yield "| Kind | Bytes | check | other build | ratio | normalise | other build | ratio |"
+    yield "|---|--:|--:|--:|--:|--:|--:|--:|"
+    for key in KEYS:
+        cells = (f"{ns(key, call)} | {ns(key, call + '-beside')} | {over_beside(key, call):.2f}" for call in ("check", "normalise"))
+        yield f"| {key[0]} | {key[1]:,} | {' | '.join(cells)} |"
+
+
+def slower():
+    """where a long payload takes more than 1.05 of the other build's time; below 2 ns the place of the code decides, and nothing is said"""
+    for key in KEYS:
+        for call in ("check", "normalise"):
+            r = over_beside(key, call)
+            if key[1] >= LONG and r > 1.05 and min(T[p][key][call] for p in PLACES) > 2:
+                yield f"{sized(key)}, {call}: {r:.2f} of the other build's time"
 
 
 def table():
     yield "| Kind | Bytes | check | Rust decode | ratio | normalise | Rust decode+encode | ratio | memcpy | normalise / memcpy |"
     yield "|---|--:|--:|--:|--:|--:|--:|--:|--:|--:|"
     for key in KEYS:
-        two = lambda call, rust: " · ".join(f"{r:.2f}" for r in both(key, call, rust))
-        yield (f"| {key[0]} | {key[1]:,} | {ns(key, 'check')} | {ns(key, 'decode')} | {two('check', 'decode')} | {ns(key, 'normalise')} "
-               f"| {ns(key, 'decode+encode')} | {two('normalise', 'decode+encode')} | {ns(key, 'memcpy')} | {two('normalise', 'memcpy')} |")
+        yield (f"| {key[0]} | {key[1]:,} | {ns(key, 'check')} | {ns(key, 'decode')} | {two(key, 'check', 'decode')} | {ns(key, 'normalise')} "
+               f"| {ns(key, 'decode+encode')} | {two(key, 'normalise', 'decode+encode')} | {ns(key, 'memcpy')} | {two(key, 'normalise', 'memcpy')} |")
 
 
 def of_type():
@@ -98,8 +154,7 @@ def of_type():
     yield "|---|--:|--:|--:|"
     for k in KINDS:
         for n in sorted({SIZES[k][0], SIZES[k][len(SIZES[k]) // 2], SIZES[k][-1]}):
-            two = lambda call, rust: " · ".join(f"{r:.2f}" for r in both((k, n), call, rust))
-            yield f"| {k} | {n:,} | {two('check', 'decode-of-type')} | {two('normalise', 'decode+encode-of-type')} |"
+            yield f"| {k} | {n:,} | {two((k, n), 'check', 'decode-of-type')} | {two((k, n), 'normalise', 'decode+encode-of-type')} |"
 
 
 def growth():
@@ -132,9 +187,12 @@ def cpu():
         return platform.machine()
 
 
+def listed(lines):
+    return [f"- {line}" for line in lines] or ["Nothing."]
+
+
 def page():
     rustc = subprocess.run(["rustc", "--version"], capture_output=True, text=True, check=True).stdout.strip()
-    missed = shorts()
     yield "# Speed"
     yield ""
     yield f"Made by `make performance` ({cpu()}, {rustc}, opt-level 3). `make bench` measures anew and leaves this page alone."
@@ -147,41 +205,32 @@ def page():
     yield "crosses a 64-byte line can take twice as long, on either side."
     yield ""
     yield from table()
-    yield ""
-    yield "## Short of the target"
-    yield ""
-    yield "The target: at most half the Rust's time for every kind and size, for the check of a TEXT above 22 bytes not more than the Rust's; at the"
-    yield "longest size at most 1.5 times memcpy where the tail is copied unread. A line is given where it is missed at either place."
-    yield ""
-    for (kind, size), call, what in missed:
-        yield f"- {kind}, {size:,} bytes, {call}: {what}"
-    if not missed:
-        yield "Nothing."
-    yield ""
-    yield "## Growth with the length"
-    yield ""
-    yield "Nanoseconds for each byte more, between the two longest sizes. Where check does not read the tail, its time does not grow."
-    yield ""
-    yield from growth()
-    yield ""
-    yield "## Against the Rust of the kind alone"
-    yield ""
-    yield "The same C calls, over the Rust type's own `decode` and `encode`, which are not asked for a code byte."
-    yield ""
-    yield from of_type()
+    yield from section("Short of the target", TARGET, [*listed(shorts()), "", aimed()])
+    yield from section("Growth with the length", (
+        "Nanoseconds for each byte more, between the two longest sizes. Where check does not read the tail, its time does not grow.",), growth())
+    yield from section("Against the Rust of the kind alone", (
+        "The same C calls, over the Rust type's own `decode` and `encode`, which are not asked for a code byte.",), of_type())
     if N:
-        yield ""
-        yield "## Instructions"
-        yield ""
-        yield "Of one call, by `valgrind --tool=callgrind`, on the same payloads. They do not depend on the machine's load or on the code's place. A long copy by"
-        yield "the C library, which both sides make, counts as one instruction a byte."
-        yield ""
-        yield from instructions()
+        yield from section("Instructions", (
+            "Of one call, by `valgrind --tool=callgrind`, on the same payloads. They do not depend on the machine's load or on the code's place. A long",
+            "copy by the C library, which both sides make, counts as one instruction a byte."), instructions())
+    if BESIDE:
+        yield from beside_section()
+
+
+def section(title, words, body):
+    yield from ("", f"## {title}", "", *words, "", *body)
+
+
+def beside_section():
+    return section("Beside another build", (
+        "Both builds in the same rounds; a ratio is this build's time over the other's, each at the better of its two places.",),
+        [*beside(), "", f"Slower by more than 5 in 100, from {LONG:,} bytes and 2 ns on:", "", *listed(slower())])
 
 
 # The chart
 
-SHADES = ("#9ecae1", "#6baed6", "#4292c6", "#2171b5", "#08306b")
+SHADES = ("#c6dbef", "#9ecae1", "#6baed6", "#4292c6", "#2171b5", "#08519c", "#08306b")
 
 
 def text(x, y, s, size=12, anchor="start", colour="#222"):
@@ -193,21 +242,25 @@ def line(x1, y1, x2, y2, colour="#ddd", dash="", width=1):
     return f'<line x1="{x1:.1f}" y1="{y1:.1f}" x2="{x2:.1f}" y2="{y2:.1f}" stroke="{colour}" stroke-width="{width}" stroke-dasharray="{dash}"/>'
 
 
-def ratios(left, title, call, rust):
+BOTTOM = 60 + 22 * len(KINDS)  # of the two upper charts
+
+
+def ratios(left, title, call, rust, targets):
     """a row a kind, a dot a size, the worse of the two places"""
     top, width, step = 60, 300, 22
     x = lambda r: left + min(r, 1.2) / 1.2 * width
-    bottom = top + step * len(KINDS)
     yield text(left, 30, title, 14)
     for tick in (0, 0.25, 0.5, 0.75, 1.0):
-        yield line(x(tick), top - 10, x(tick), bottom, "#c33" if tick == 0.5 else "#ddd", "4 3" if tick == 0.5 else "")
-        yield text(x(tick), bottom + 14, f"{tick:g}", 11, "middle")
+        yield line(x(tick), top - 10, x(tick), BOTTOM)
+        yield text(x(tick), BOTTOM + 14, f"{tick:g}", 11, "middle")
+    for target in targets:
+        yield line(x(target), top - 10, x(target), BOTTOM, "#c33", "4 3")
     for i, k in enumerate(KINDS):
         y = top + step * i + 6
         yield text(left - 8, y + 4, k, 11, "end")
         for j, n in enumerate(SIZES[k]):
             r = max(both((k, n), call, rust))
-            shade = SHADES[j if len(SIZES[k]) > 1 else 0]
+            shade = SHADES[j * (len(SHADES) - 1) // max(1, len(SIZES[k]) - 1)]
             yield f'<circle cx="{x(r):.1f}" cy="{y}" r="5" fill="{shade}"><title>{k}, {n:,} bytes: {r:.2f}</title></circle>'
 
 
@@ -241,14 +294,14 @@ def grows(left, top, width, height):
 
 
 def chart():
-    yield '<svg xmlns="http://www.w3.org/2000/svg" viewBox="0 0 900 740" font-family="sans-serif">'
-    yield '<rect width="900" height="740" fill="#fff"/>'
-    yield from ratios(110, "check / Rust decode", "check", "decode")
-    yield from ratios(540, "normalise / Rust decode+encode", "normalise", "decode+encode")
+    yield f'<svg xmlns="http://www.w3.org/2000/svg" viewBox="0 0 900 {BOTTOM + 394}" font-family="sans-serif">'
+    yield f'<rect width="900" height="{BOTTOM + 394}" fill="#fff"/>'
+    yield from ratios(110, "check / Rust decode", "check", "decode", (0.4,))
+    yield from ratios(540, "normalise / Rust decode+encode", "normalise", "decode+encode", (0.15, 0.33, 0.5))
     for i, shade in enumerate(SHADES):
-        yield f'<circle cx="{114 + 16 * i}" cy="388" r="5" fill="{shade}"/>'
-    yield text(200, 392, "from a kind's shortest payload to its longest; broken: half the Rust's time", 11)
-    yield from grows(110, 440, 640, 250)
+        yield f'<circle cx="{114 + 16 * i}" cy="{BOTTOM + 42}" r="5" fill="{shade}"/>'
+    yield text(232, BOTTOM + 46, "from a kind's shortest payload to its longest; broken: the targets", 11)
+    yield from grows(110, BOTTOM + 94, 640, 250)
     yield "</svg>"
 
 
@@ -256,6 +309,9 @@ def chart():
 (HERE / "performance.svg").write_text("\n".join(chart()) + "\n", encoding="utf-8")
 print("\n".join(table()))
 print()
-for (kind, size), call, what in shorts():
-    print(f"short of the target: {kind}, {size:,} bytes, {call}: {what}")
+for missed in shorts():
+    print(f"short of the target: {missed}")
+print(aimed())
+if BESIDE:
+    print("\n".join(beside_section()))
 print(f"written: {HERE}/PERFORMANCE.md and performance.svg")

@@ -1,27 +1,44 @@
 #!/usr/bin/env bash
-# Measures the C calls against the original Rust: run.sh [--docs] [SOURCES]
+# Measures the C calls against the original Rust: run.sh [--docs] [--beside ARCHIVE] [SOURCES]
 # SOURCES as for tools/oracle/build.sh, which builds the original. Writes build/bench/PERFORMANCE.md and performance.svg, and with --docs
-# copies both to docs/.
+# copies both to docs/. With --beside another build of the library is measured in the same rounds. RUNS=NUMBER sets how often (15).
 set -eu
 here=$(cd "$(dirname "$0")" && pwd)
 root=$(cd "$here/../.." && pwd)
 lib=$root/target/staticlib/libosdp.a
 out=$root/build/bench
 docs=
-[ "${1-}" != --docs ] || { docs=1; shift; }
-[ -f "$lib" ] || { echo "$0: $lib is not there: make lib builds it" >&2; exit 1; }
+beside=
+while true; do
+    case ${1-} in
+    --docs) docs=1; shift ;;
+    --beside) beside=$2; shift 2 ;;
+    *) break ;;
+    esac
+done
+for archive in "$lib" ${beside:+"$beside"}; do
+    [ -f "$archive" ] || { echo "$0: $archive is not there: make lib builds the library" >&2; exit 1; }
+done
 "$root/tools/oracle/build.sh" ${1:+"$1"}
 rm -rf "$out"
 mkdir -p "$out/counts"
 
+# The other build's symbols get new names, so that both can be linked.
+other=()
+if [ -n "$beside" ]; then
+    nm --defined-only -g "$beside" | awk 'NF == 3 { print $3, "beside_" $3 }' >"$out/renamed"
+    objcopy --redefine-syms="$out/renamed" "$beside" "$out/beside.a"
+    other=(--cfg beside -C link-arg="$out/beside.a")
+fi
+
 # Two binaries, whose code differs in its place alone.
 build() {
-    rustc --edition 2021 -C opt-level=3 -C codegen-units=1 -D warnings --check-cfg 'cfg(shifted)' --crate-name bench \
-        --extern osdp="$root/build/oracle/libosdp.rlib" -C link-arg="$lib" "$@" "$here/bench.rs"
+    rustc --edition 2021 -C opt-level=3 -C codegen-units=1 -D warnings --check-cfg 'cfg(shifted, beside)' --crate-name bench \
+        -L "$root/build/oracle" --extern osdp --extern judge -C link-arg="$lib" "${other[@]}" "$@" "$here/bench.rs"
 }
 build -o "$out/bench-1"
 build -o "$out/bench-2" --cfg shifted
-for run in $(seq 15); do
+for run in $(seq "${RUNS:-15}"); do
     for place in 1 2; do
         "$out/bench-$place" >"$out/place-$place-run-$run.tsv"
     done

@@ -1,13 +1,12 @@
 //! The four C calls against the original Rust, in one process: compare [SEED]
 //! README.md says what is tried. Exits 1 where an answer or a byte differs, where a kind was never accepted, and where a row that a kind can
 //! give never occurred.
-mod cases;
-mod expect;
 mod guarded;
 
-use cases::{Kind, KINDS, LONGEST};
-use expect::{expected, is_carried, Side};
 use guarded::Region;
+use judge::chance::Chance;
+use judge::kinds::{kind, Kind, Side, KINDS, LONGEST};
+use judge::read::normalised;
 use std::sync::atomic::{AtomicU64, Ordering};
 
 extern "C" {
@@ -118,7 +117,7 @@ impl Run {
         let at = if self.turn % 8 == 1 { self.payload.front() } else { self.payload.end(p.len()) };
         unsafe { std::ptr::copy_nonoverlapping(p.as_ptr(), at, p.len()) };
         let lent = if p.is_empty() && self.turn % 2 == 0 { std::ptr::null() } else { at as *const u8 };
-        let (cases, row) = match expected(self.side, code, p) {
+        let (cases, row) = match normalised(self.side, code, p) {
             Ok(form) => {
                 self.check(code, lent, p, 0);
                 let need = form.len();
@@ -133,12 +132,13 @@ impl Run {
                 c.changed += (form != p) as u64;
                 (5, NO_ROOM)
             }
-            Err(row) => {
-                self.check(code, lent, p, -(row as i32));
+            Err(e) => {
+                let want = -i32::from(e.row);
+                self.check(code, lent, p, want);
                 for room in [0, p.len(), p.len() + 1 + self.turn % 90] {
-                    self.normalise(code, lent, p, room, -(row as i32), &[]);
+                    self.normalise(code, lent, p, room, want, &[]);
                 }
-                (4, row)
+                (4, e.row.into())
             }
         };
         if unsafe { std::slice::from_raw_parts(at, p.len()) } != p {
@@ -169,7 +169,7 @@ impl Run {
 
     /// Every length from 0 to 2 past the longest: a good payload where the kind has one of that length, and one by chance; near a boundary
     /// and below 600 also zeroes, 0xFF, and a good one with a byte cut off, added or changed.
-    fn every_length(&mut self, k: &Kind, r: &mut cases::Chance) {
+    fn every_length(&mut self, k: &Kind, r: &mut Chance) {
         for n in 0..=LONGEST + 2 {
             if k.near(n) == n {
                 let p = k.good(n, r);
@@ -188,7 +188,7 @@ impl Run {
         }
     }
 
-    fn chance(&mut self, k: &Kind, r: &mut cases::Chance) {
+    fn chance(&mut self, k: &Kind, r: &mut Chance) {
         for _ in 0..BY_CHANCE {
             let n = r.size();
             let p = k.good(k.near(n), r);
@@ -204,7 +204,7 @@ impl Run {
     }
 
     fn all(mut self, seed: u64) -> [Count; 256] {
-        let mut r = cases::Chance::new(seed ^ self.side as u64);
+        let mut r = Chance::new(seed ^ self.side as u64);
         self.every_short_one();
         let side = self.side;
         for k in KINDS.iter().filter(|k| k.side == side) {
@@ -245,20 +245,19 @@ fn line(name: &str, c: &Count, rows: &[usize], can_be_changed: Option<bool>) -> 
     good
 }
 
+fn seed() -> u64 {
+    let Some(s) = std::env::args().nth(1) else { return SEED };
+    s.strip_prefix("0x").map_or_else(|| s.parse().ok(), |h| u64::from_str_radix(h, 16).ok()).unwrap_or_else(|| {
+        eprintln!("compare: {s} is no seed: a number, or 0x and hex digits");
+        std::process::exit(2)
+    })
+}
+
 fn main() {
-    let seed = match std::env::args().nth(1) {
-        None => SEED,
-        Some(s) => match s.strip_prefix("0x").map_or_else(|| s.parse().ok(), |h| u64::from_str_radix(h, 16).ok()) {
-            Some(n) => n,
-            None => {
-                eprintln!("compare: {s} is no seed: a number, or 0x and hex digits");
-                std::process::exit(2);
-            }
-        },
-    };
+    let seed = seed();
     let start = std::time::Instant::now();
     guarded::watch();
-    let [commands, replies] = [Side::Command, Side::Reply].map(|side| std::thread::spawn(move || Run::new(side).all(seed)));
+    let [commands, replies] = Side::BOTH.map(|side| std::thread::spawn(move || Run::new(side).all(seed)));
     let by_side = [commands.join().expect("commands"), replies.join().expect("replies")];
 
     print!("{:<18} {:>10} {:>11} {:>9} {:>9}", "", "payloads", "cases", "accepted", "changed");
@@ -268,14 +267,14 @@ fn main() {
     println!();
     let mut good = true;
     let mut total = Count::default();
-    for k in &KINDS {
+    for k in KINDS.iter() {
         let c = &by_side[k.side as usize][k.code as usize];
-        good &= line(&format!("{:<12} {:02X}", k.name, k.code), c, k.rows, Some(k.can_change));
+        good &= line(&format!("{:<12} {:02X}", k.name, k.code), c, &k.rows, Some(k.can_change()));
         total.add(c);
     }
     for (side, unknown) in [(Side::Command, 1), (Side::Reply, 2)] {
         let mut c = Count::default();
-        for code in (0..=255u8).filter(|&c| !is_carried(side, c)) {
+        for code in (0..=255u8).filter(|&c| kind(side, c).is_none()) {
             c.add(&by_side[side as usize][code as usize]);
         }
         good &= line(&format!("other {}", side.name()), &c, &[unknown, 14], None);

@@ -1,5 +1,5 @@
 //! Memory between two pages that may not be touched. Touching one ends the process, with the payload that did it.
-use crate::expect::Side;
+use judge::kinds::Side;
 use std::ffi::c_void;
 use std::sync::atomic::{AtomicU64, Ordering};
 

@@ -9,6 +9,6 @@ out=$root/build/compare
 [ -f "$lib" ] || { echo "$0: $lib is not there: make lib builds it" >&2; exit 1; }
 "$root/tools/oracle/build.sh" ${1:+"$1"}
 mkdir -p "$out"
-rustc --edition 2021 -C opt-level=3 -C codegen-units=1 -D warnings --crate-name compare --extern osdp="$root/build/oracle/libosdp.rlib" \
-    -C link-arg="$lib" -o "$out/compare" "$here/compare.rs"
+rustc --edition 2021 -C opt-level=3 -C codegen-units=1 -D warnings --crate-name compare \
+    -L "$root/build/oracle" --extern judge -C link-arg="$lib" -o "$out/compare" "$here/compare.rs"
 exec "$out/compare" ${2:+"$2"}

@@ -2,7 +2,8 @@
 """Runs inspect on inputs of every sort: inputs.py PROGRAM [SOURCES]
 
 Bad lines and bad files, each with what inspect has to say of it; every code of every table, whose names are read from the original Rust in
-SOURCES (by default ../shared/docs/src beside the repository); payloads of the greatest lengths; and, for its speed, many short lines.
+SOURCES (by default ../shared/docs/src beside the repository); every code byte, since a kind has to have a name; payloads of the greatest
+lengths; and, for its speed, many short lines.
 Exits with 1 where something differs.
 """
 import re
@@ -104,6 +105,10 @@ for file, enum, line, wanted in [
     for number, name in table(file, enum):
         said, _ = inspect(line.format(number, name).encode())
         expect(f"{enum} {number}", (wanted.format(number, name) in said, "read 1," in said), (True, True))
+
+# a title without a name is that of a code that has no kind: every kind has its row
+said, _ = inspect("".join(f"{side} {code:02X}\n" for side in ("command", "reply") for code in range(256)).encode())
+expect("a kind without a name", re.findall(r"line \d+: \w+ .., length 0\n(?!  refused, row (?:1|2|14) )", said), [])
 
 said, _ = inspect(b"command 80 " + b"00" * 65546 + b"\ncommand 80 " + b"00 " * 65547)
 expect("the longest payload", said.splitlines()[2], "  payload:" + " 00" * 65543)

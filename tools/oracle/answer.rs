@@ -1,19 +1,13 @@
 //! Cases, and the original's answers to them.
 use crate::{model, records};
-use osdp::command::{self as cmd, Command, CommandCode};
+use judge::kinds::{kind, Kind, Side};
+use judge::read::{read, read_of_kind};
+use judge::refusal::{refusal, Refusal};
+use osdp::command::{self as cmd, CommandCode};
 use osdp::error::Error;
 use osdp::guards;
-use osdp::reply::{self as rep, Reply, ReplyCode};
+use osdp::reply::{self as rep, ReplyCode};
 use std::panic::{catch_unwind, AssertUnwindSafe};
-
-/// A row of document 01's refusal table.
-#[derive(Clone, Copy)]
-pub struct Refusal {
-    pub row: u8,
-    pub code: u8,
-    pub first: usize,
-    pub second: usize,
-}
 
 pub enum Case {
     /// One of TABLES, and a byte to look up.
@@ -21,9 +15,9 @@ pub enum Case {
     /// One of GUARDS, its number, code byte and data.
     Guard(usize, usize, u8, Vec<u8>),
     /// A payload, by all calls for it, or by those of its kind alone, which know no longest payload.
-    Payload { is_reply: bool, of_kind: bool, code: u8, payload: Vec<u8> },
+    Payload { side: Side, of_kind: bool, code: u8, payload: Vec<u8> },
     /// A record made by hand, to be written.
-    Write { is_reply: bool, code: u8, fixed: Vec<u8>, tail: Vec<u8> },
+    Write { side: Side, code: u8, fixed: Vec<u8>, tail: Vec<u8> },
     Bits(u16, Vec<u8>),
     /// Record k of a list.
     Record { code: u8, k: usize, payload: Vec<u8> },
@@ -45,45 +39,7 @@ pub enum Answer {
     /// The byte of a code, or the bytes written or handed out.
     Gave(Vec<u8>),
     /// A payload that is accepted: fields, tail, the record written again, and what strict refuses.
-    Read { parts: records::Parts, wrote: Vec<u8>, strict: Option<Refusal> },
-}
-
-/// Rows of the refusal table for the reason strings of the original.
-const REASONS: [(u8, &str); 18] = [
-    (6, "TEXT length field disagrees with payload"),
-    (6, "BIOMATCH length disagrees with payload"),
-    (6, "BIOREADR length disagrees with payload"),
-    (6, "FILETRANSFER fragment length disagrees with payload"),
-    (6, "RAW bit count does not match payload length"),
-    (6, "FMT char_count disagrees with payload"),
-    (7, "unknown output control code"),
-    (8, "TEXT must be printable ASCII"),
-    (9, "unknown TEXT command code"),
-    (10, "unknown NAK error code"),
-    (11, "LED requires at least one record"),
-    (11, "OUT requires at least one record"),
-    (12, "TEXT length exceeds 255 bytes"),
-    (12, "BIOMATCH template > 65535 bytes"),
-    (12, "BIOREADR data > 65535 bytes"),
-    (12, "FILETRANSFER fragment > 65535 bytes"),
-    (13, "RAW bit count does not match byte length"),
-    (13, "FMT char_count disagrees with chars"),
-];
-
-fn refusal(e: Error) -> Refusal {
-    let (row, code, first, second) = match e {
-        Error::UnknownCommand(c) => (1, c, 0, 0),
-        Error::UnknownReply(c) => (2, c, 0, 0),
-        Error::PayloadLength { code, expected, got } => (3, code, expected, got),
-        Error::PayloadTooShort { code, min, got } => (4, code, min, got),
-        Error::PayloadNotMultiple { code, block, got } => (5, code, block, got),
-        Error::MalformedPayload { code, reason } => match REASONS.iter().find(|r| r.1 == reason) {
-            Some(&(row, _)) => (row, code, 0, 0),
-            None => panic!("no row for the reason {reason:?}"),
-        },
-        other => panic!("no row for {other:?}"),
-    };
-    Refusal { row, code, first, second }
+    Read { kind: &'static Kind, parts: records::Parts, wrote: Vec<u8>, strict: Option<Refusal> },
 }
 
 fn gave(r: Result<Vec<u8>, Error>) -> Answer {
@@ -116,45 +72,21 @@ fn guard(which: usize, n: usize, code: u8, data: &[u8]) -> Answer {
     }
 }
 
-fn read(code: u8, payload: &[u8], parts: Option<records::Parts>, again: Result<Vec<u8>, Error>) -> Answer {
-    let wrote = again.unwrap_or_else(|e| panic!("what was read is not written: {e:?}"));
-    Answer::Read { parts: parts.expect("a carried kind"), wrote, strict: model::strict(code, payload) }
-}
-
-fn command(of_kind: bool, code: u8, payload: &[u8]) -> Answer {
-    let c = match CommandCode::from_byte(code) {
-        Ok(c) => c,
-        Err(e) => return Answer::Refused(refusal(e)),
+fn payload(side: Side, of_kind: bool, code: u8, payload: &[u8]) -> Answer {
+    let record = match if of_kind { read_of_kind(side, code, payload) } else { read(side, code, payload) } {
+        Ok(r) => r,
+        Err(e) => return Answer::Refused(e),
     };
-    if let (false, Some(e)) = (of_kind, model::by_code(model::COMMANDS.contains(&code), code, payload.len())) {
-        return Answer::Refused(e);
-    }
-    match Command::decode(c, payload) {
-        Err(e) => Answer::Refused(refusal(e)),
-        Ok(r) => read(code, payload, records::of_command(&r), r.encode_data()),
-    }
+    let wrote = record.encode().unwrap_or_else(|e| panic!("what was read is not written: row {}", e.row));
+    let (kind, parts) = kind(side, code).zip(records::parts_of(&record)).expect("a carried kind");
+    Answer::Read { kind, parts, wrote, strict: model::strict(kind, payload) }
 }
 
-fn reply(of_kind: bool, code: u8, payload: &[u8]) -> Answer {
-    let c = match ReplyCode::from_byte(code) {
-        Ok(c) => c,
-        Err(e) => return Answer::Refused(refusal(e)),
-    };
-    if let (false, Some(e)) = (of_kind, model::by_code(model::REPLIES.contains(&code), code, payload.len())) {
-        return Answer::Refused(e);
+fn write(side: Side, code: u8, fixed: &[u8], tail: &[u8]) -> Answer {
+    match records::record_of(side, code, fixed, tail.to_vec()).expect("a record of the original").encode() {
+        Ok(bytes) => Answer::Gave(bytes),
+        Err(e) => Answer::Refused(e),
     }
-    match Reply::decode(c, payload) {
-        Err(e) => Answer::Refused(refusal(e)),
-        Ok(r) => read(code, payload, records::of_reply(&r), r.encode_data()),
-    }
-}
-
-fn write(is_reply: bool, code: u8, fixed: &[u8], tail: &[u8]) -> Answer {
-    gave(if is_reply {
-        records::to_reply(code, fixed, tail.to_vec()).expect("a record of the original").encode_data()
-    } else {
-        records::to_command(code, fixed, tail.to_vec()).expect("a record of the original").encode_data()
-    })
 }
 
 fn picked<T>(code: u8, list: Result<Vec<T>, Error>, k: usize, bytes: fn(&T) -> Vec<u8>) -> Answer {
@@ -191,7 +123,7 @@ fn read_at(place: usize, payload: &[u8]) -> Answer {
 
 fn write_at(code: u8, place: usize, room: usize, fixed: &[u8]) -> Answer {
     match model::room_at(code, place, fixed.len(), room) {
-        Ok(()) => write(false, code, fixed, &[]),
+        Ok(()) => write(Side::Command, code, fixed, &[]),
         Err(e) => Answer::Refused(e),
     }
 }
@@ -205,9 +137,8 @@ pub fn answer(case: &Case) -> Answer {
     match case {
         Case::Table(which, b) => table(*which, *b),
         Case::Guard(which, n, code, data) => guard(*which, *n, *code, data),
-        Case::Payload { is_reply: false, of_kind, code, payload } => command(*of_kind, *code, payload),
-        Case::Payload { is_reply: true, of_kind, code, payload } => reply(*of_kind, *code, payload),
-        Case::Write { is_reply, code, fixed, tail } => write(*is_reply, *code, fixed, tail),
+        Case::Payload { side, of_kind, code, payload: bytes } => payload(*side, *of_kind, *code, bytes),
+        Case::Write { side, code, fixed, tail } => write(*side, *code, fixed, tail),
         Case::Bits(count, data) => bits(*count, data),
         Case::Record { code, k, payload } => record(*code, *k, payload),
         Case::Walk { place, payload } => walk(*place, payload),

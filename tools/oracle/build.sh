@@ -27,4 +27,5 @@ cp "$here/shim/reply_mfg.rs" "$out/src/reply/mfg.rs"
 flags='--edition 2021 -C opt-level=3 -C codegen-units=1'
 rustc $flags --cfg 'feature="alloc"' --check-cfg 'cfg(feature, values("alloc", "_docs"))' --check-cfg 'cfg(test)' \
     --crate-name osdp --crate-type rlib --out-dir "$out" "$out/src/lib.rs"
-rustc $flags --crate-name oracle --extern osdp="$out/libosdp.rlib" -o "$out/oracle" "$here/driver.rs"
+rustc $flags --crate-name judge --crate-type rlib --extern osdp="$out/libosdp.rlib" --out-dir "$out" "$here/../judge/lib.rs"
+rustc $flags --crate-name oracle -L "$out" --extern osdp --extern judge -o "$out/oracle" "$here/driver.rs"

@@ -1,7 +1,7 @@
 #!/usr/bin/env bash
 # The library against the answers of the original Rust and of the model, at scale: compare.sh [SOURCES [SCALE [SEED]]]
 # Cases are made, answered and packed here, and replayed by the program vectors, which `rt check vectors` builds. Fails where an answer
-# differs, a case is skipped, a row never occurred, or a kind was never read or written.
+# differs, a row never occurred, or a kind was never read or written.
 set -euo pipefail
 here=$(cd "$(dirname "$0")" && pwd)
 root=$(cd "$here/../.." && pwd)
@@ -12,4 +12,4 @@ seed=${3:-20261115}
 "$out/oracle" paper <"$here/paper.txt"
 python3 "$here/gen.py" "$scale" "$seed" | "$out/oracle" pack | "$root/target/bin/vectors" >"$out/compared"
 cat "$out/compared"
-grep -qxE '[1-9][0-9]* cases, 0 differ, 0 skipped' "$out/compared"
+grep -qxE '[1-9][0-9]* cases, 0 differ' "$out/compared"

@@ -8,7 +8,9 @@ mod model;
 mod pack;
 mod records;
 
-use answer::{answer, Answer, Case, Refusal, GUARDS, TABLES};
+use answer::{answer, Answer, Case, GUARDS, TABLES};
+use judge::kinds::{Side, KINDS};
+use judge::refusal::Refusal;
 use std::fmt::Write as _;
 use std::io::{BufRead, Write as _};
 
@@ -45,14 +47,14 @@ fn number(s: &str) -> Option<usize> {
 fn parse(line: &str) -> Option<Case> {
     let w: Vec<&str> = line.split_ascii_whitespace().collect();
     let payload = |of_kind, what, code, data| {
-        Some(Case::Payload { is_reply: reply(what)?, of_kind, code: byte(code)?, payload: bytes(data)? })
+        Some(Case::Payload { side: Side::named(what)?, of_kind, code: byte(code)?, payload: bytes(data)? })
     };
     match w[..] {
         ["table", name, b] => Some(Case::Table(TABLES.iter().position(|t| *t == name)?, byte(b)?)),
         ["guard", name, n, code, data] => Some(Case::Guard(GUARDS.iter().position(|g| *g == name)?, number(n)?, byte(code)?, bytes(data)?)),
         ["kind", what, code, data] => payload(true, what, code, data),
         ["write", what, code, fixed, tail] => {
-            Some(Case::Write { is_reply: reply(what)?, code: byte(code)?, fixed: bytes(fixed)?, tail: bytes(tail)? })
+            Some(Case::Write { side: Side::named(what)?, code: byte(code)?, fixed: bytes(fixed)?, tail: bytes(tail)? })
         }
         ["bits", count, data] => Some(Case::Bits(count.parse().ok()?, bytes(data)?)),
         ["record", code, k, data] => Some(Case::Record { code: byte(code)?, k: number(k)?, payload: bytes(data)? }),
@@ -65,10 +67,6 @@ fn parse(line: &str) -> Option<Case> {
         [what, code, data] => payload(false, what, code, data),
         _ => None,
     }
-}
-
-fn reply(what: &str) -> Option<bool> {
-    ["command", "reply"].iter().position(|w| *w == what).map(|at| at == 1)
 }
 
 fn hex(bytes: &[u8]) -> String {
@@ -91,7 +89,7 @@ fn text(a: &Answer) -> String {
         Answer::Refused(e) => refused(e),
         Answer::Passed => "passed".into(),
         Answer::Gave(bytes) => format!("gave {}", hex(bytes)),
-        Answer::Read { parts, wrote, strict } => {
+        Answer::Read { parts, wrote, strict, .. } => {
             let strict = strict.map_or("passed".into(), |e| refused(&e));
             format!("read {} {} wrote {} strict {strict}", hex(&parts.fixed), hex(&parts.tail), hex(wrote))
         }
@@ -103,24 +101,30 @@ fn stop(why: &str) -> ! {
     std::process::exit(1)
 }
 
+fn answered(number: usize, line: &str) -> (Case, Answer) {
+    let case = parse(line).unwrap_or_else(|| stop(&format!("line {number} is no case")));
+    let answer = std::panic::catch_unwind(|| answer(&case)).unwrap_or_else(|e| {
+        let why = e.downcast_ref::<String>().map_or("the original panicked", |s| s);
+        stop(&format!("line {number}: {why}"))
+    });
+    (case, answer)
+}
+
 fn main() {
+    // read before panics are made silent
+    std::sync::LazyLock::force(&KINDS);
     std::panic::set_hook(Box::new(|_| {}));
     let mode = std::env::args().nth(1).unwrap_or_default();
     let mut out = std::io::BufWriter::with_capacity(1 << 20, std::io::stdout().lock());
     let (mut tally, mut packed) = (pack::Tally::default(), Vec::new());
-    let (mut lines, mut wrong) = (0, 0);
-    for line in std::io::stdin().lock().lines() {
+    let mut wrong = 0;
+    for (number, line) in (1..).zip(std::io::stdin().lock().lines()) {
         let line = line.unwrap_or_else(|e| stop(&e.to_string()));
-        lines += 1;
         let (line, words) = line.split_once(" => ").unwrap_or((&line, ""));
         if line.is_empty() || line.starts_with('#') {
             continue;
         }
-        let case = parse(line).unwrap_or_else(|| stop(&format!("line {lines} is no case")));
-        let answer = std::panic::catch_unwind(|| answer(&case)).unwrap_or_else(|e| {
-            let why = e.downcast_ref::<String>().map_or("the original panicked", |s| s);
-            stop(&format!("line {lines}: {why}"))
-        });
+        let (case, answer) = answered(number, line);
         match &mode[..] {
             "pack" => {
                 packed.clear();
@@ -130,7 +134,7 @@ fn main() {
             "paper" => {
                 if !text(&answer).starts_with(words) {
                     wrong += 1;
-                    eprintln!("line {lines}: {:.80}: {:.80}, not {words}", line, text(&answer));
+                    eprintln!("line {number}: {:.80}: {:.80}, not {words}", line, text(&answer));
                 }
             }
             _ => writeln!(out, "{}", text(&answer)).unwrap_or_else(|e| stop(&e.to_string())),

@@ -7,8 +7,13 @@ import struct
 import sys
 from pathlib import Path
 
-LIMIT = 65546  # the longest payload that the calls by code take
+sys.dont_write_bytecode = True
+sys.path.insert(0, str(Path(__file__).resolve().parent.parent))
+from kinds import KINDS, is_tail, span
+
+LIMIT = max(k.most for k in KINDS)  # the longest payload that the calls by code take
 TOP = 2**64 - 1
+LED, OUT, TEXT, BIOMATCH = (next(k for k in KINDS if k.name == name) for name in ("LED", "OUT", "TEXT", "BIOMATCH"))
 
 
 class Chance:
@@ -39,68 +44,46 @@ def u16(n):
     return struct.pack("<H", n)
 
 
-# A good payload of each kind, with a tail (or bits, or a list) of n.
+def drawn(field, n):
+    """a field before a tail of n, or the tail"""
+    if span(field):
+        low, high = span(field)
+        return bytes([low + R.below(high - low + 1)])
+    if field in ("len8", "count8"):
+        return bytes([n])
+    if field in ("len16", "bits16"):
+        return u16(n)
+    if field == "text":
+        return bytes(0x20 + R.below(0x5F) for _ in range(n))
+    return R.bytes(n if field.startswith("tail") else int(field))
 
 
-def led(n):
-    out = b""
-    for _ in range(n):
-        r = bytearray(R.bytes(14))
-        for at in (5, 6, 12, 13):
-            r[at] = R.below(8)
-        out += bytes(r)
-    return out
+def led_record():
+    """all bytes first, then the colours: other draws would make other vectors"""
+    r = bytearray(R.bytes(LED.step))
+    for at, highest in LED.limits:
+        r[at] = R.below(highest + 1)
+    return bytes(r)
 
 
-def out_list(n):
-    return b"".join(bytes([R.below(256), R.below(7)]) + R.bytes(2) for _ in range(n))
+def pieces(kind, n):
+    """the fields of a good payload with a tail of n bytes, or bits"""
+    for at, field in enumerate(kind.fields):
+        if at == 0 and n and kind.kept_after is not None:
+            yield bytes([kind.kept_after])
+        elif field == "tail" and "bits16" in kind.fields:
+            yield R.bytes((n + 7) // 8)
+        else:
+            yield drawn(field, n)
 
 
-def text(n):
-    head = bytes([R.below(256), 1 + R.below(4), R.below(256), R.below(256), R.below(256), n])
-    return head + bytes(0x20 + R.below(0x5F) for _ in range(n))
+def good(kind, n):
+    """a good payload with a tail of n bytes or bits, or a list of n records"""
+    if kind is LED:
+        return b"".join(led_record() for _ in range(n))
+    return b"".join(b"".join(pieces(kind, n)) for _ in range(n if kind.step > 1 else 1))
 
 
-def bio_head(_):
-    return bytes([R.below(256), R.below(0x12), R.below(3), R.below(256)])
-
-
-def bio(n):
-    return bio_head(n) + u16(n) + R.bytes(n)
-
-
-def file(n):
-    return R.bytes(9) + u16(n) + R.bytes(n)
-
-
-def raw(n):
-    return R.bytes(2) + u16(n) + R.bytes((n + 7) // 8)
-
-
-def fmt(n):
-    return R.bytes(2) + bytes([n]) + R.bytes(n)
-
-
-def nak(n):
-    return bytes([9 if n else R.below(10)]) + R.bytes(n)
-
-
-# what, code, least length, a good payload of n, the n to try
-KINDS = [
-    ("command", 0x69, 14, led, (1, 2, 3, 10)),
-    ("command", 0x68, 4, out_list, (1, 2, 3, 10)),
-    ("command", 0x6B, 6, text, (0, 1, 2, 16, 254, 255)),
-    ("command", 0x73, 4, bio_head, (0,)),
-    ("command", 0x74, 6, bio, (0, 1, 2, 255, 256, 257)),
-    ("command", 0x7C, 11, file, (0, 1, 2, 255, 256, 257)),
-    ("command", 0x80, 3, lambda n: R.bytes(3 + n), (0, 1, 2, 64)),
-    ("reply", 0x50, 4, raw, (0, 1, 7, 8, 9, 26, 255, 256, 2048)),
-    ("reply", 0x51, 3, fmt, (0, 1, 2, 254, 255)),
-    ("reply", 0x57, 6, bio, (0, 1, 2, 255, 256, 257)),
-    ("reply", 0x58, 3, lambda n: R.bytes(3), (0,)),
-    ("reply", 0x41, 1, nak, (0, 1, 2, 64)),
-    ("reply", 0xB1, 1, lambda n: R.bytes(1 + n), (0, 1, 2, 64)),
-]
 EDGES = (0, 1, 2, 3, 4, 5, 6, 7, 8, 9, 10, 0x11, 0x12, 0x1F, 0x20, 0x7E, 0x7F, 0x80, 0xFF)
 
 
@@ -109,7 +92,7 @@ def spell(b):
 
 
 def case(kind, payload):
-    return f"{kind[0]} {kind[1]:02X} {spell(payload)}"
+    return f"{kind.side} {kind.code:02X} {spell(payload)}"
 
 
 def paper():
@@ -144,25 +127,24 @@ def damaged(p, least):
 
 def payloads(scale):
     for kind in KINDS:
-        least, good, sizes = kind[2:]
         # every payload of one byte; every length up to two past the least
         for b in range(256):
             yield case(kind, bytes([b]))
-        for n in range(least + 3):
+        for n in range(kind.least + 3):
             for p in (bytes(n), R.bytes(n), b"\xff" * n):
                 yield case(kind, p)
         # good ones, a byte less, a byte more, and damaged ones
-        for n in sizes:
+        for n in kind.tried:
             for _ in range(scale):
-                p = good(n)
+                p = good(kind, n)
                 for q in (p, p[:-1], p + R.bytes(1)):
                     yield case(kind, q)
                 for _ in range(3):
-                    for q in damaged(p, least):
+                    for q in damaged(p, kind.least):
                         yield case(kind, q)
         # every edge at every place of the fixed part of a short good one
-        p = good(sizes[min(1, len(sizes) - 1)])
-        for at in range(min(len(p), least + 2)):
+        p = good(kind, kind.tried[:2][-1])
+        for at in range(min(len(p), kind.least + 2)):
             for e in EDGES:
                 yield case(kind, p[:at] + bytes([e]) + p[at + 1:])
 
@@ -171,12 +153,11 @@ def colours():
     """a colour above 7 in each record of a list, and one after it"""
     for n in (1, 2, 3):
         for k in range(n):
-            for at in (5, 6, 12, 13):
-                p = bytearray(led(n))
-                p[14 * k + at] = 8 + R.below(248)
-                yield case(KINDS[0], bytes(p))
-                p[14 * n - 1] = 8 + R.below(248)
-                yield case(KINDS[0], bytes(p))
+            for at, highest in LED.limits:
+                p = bytearray(good(LED, n))
+                for place in (LED.step * k + at, len(p) - 1):
+                    p[place] = highest + 1 + R.below(0xFF - highest)
+                    yield case(LED, bytes(p))
 
 
 def by_code():
@@ -196,10 +177,10 @@ def limits():
         for field, n in ((65534, 65534), (65535, 65534), (65535, 65535), (65535, 65536)):
             yield f"{what} {code:02X} {head}{u16(field).hex().upper()}+EE*{n}"
     # the longest payload for the calls by code, and a longer one for the calls of a kind, which know no longest
-    for what, code, *_ in KINDS:
-        fill = "09" if code == 0x41 else "00"
-        for line in (f"{what} {code:02X} {fill}*{LIMIT}", f"{what} {code:02X} {fill}*{LIMIT + 1}", f"kind {what} {code:02X} {fill}*{LIMIT + 1}"):
-            yield line
+    for kind in KINDS:
+        fill = f"{kind.kept_after or 0:02X}"
+        longest, longer = case(kind, f"{fill}*{LIMIT}"), case(kind, f"{fill}*{LIMIT + 1}")
+        yield from (longest, longer, f"kind {longer}")
     # long lists, and one whose last record is refused
     yield f"command 69 07*{14 * (LIMIT // 14)}"
     yield f"kind command 69 07*{14 * (LIMIT // 14 + 1)}"
@@ -208,20 +189,25 @@ def limits():
     yield f"command 68 06*{4 * 300 - 3}+07+06*2"
 
 
-def writes(scale):
-    def w(what, code, fixed, tail=b""):
-        return f"write {what} {code:02X} {spell(fixed)} {spell(tail)}"
+WRITTEN = set()
 
+
+def w(what, code, fixed, tail=b""):
+    WRITTEN.add((what, code))
+    return f"write {what} {code:02X} {spell(fixed)} {spell(tail)}"
+
+
+def writes(scale):
     for _ in range(4 * scale):
         # lists have at most four records, as many as the program that compares lends
         for n in (0, 1, 2, 3, 4):
-            yield w("command", 0x69, led(n))
-            yield w("command", 0x68, out_list(n))
+            yield w("command", 0x69, good(LED, n))
+            yield w("command", 0x68, good(OUT, n))
         for n in (0, 1, 9):
-            t = text(n)
+            t = good(TEXT, n)
             yield w("command", 0x6B, t[:5], t[6:])
             yield w("command", 0x6B, t[:5], R.bytes(n))
-            b = bio(n)
+            b = good(BIOMATCH, n)
             yield w("command", 0x73, b[:4])
             yield w("command", 0x74, b[:4], b[6:])
             yield w("reply", 0x57, b[:4], b[6:])
@@ -234,6 +220,9 @@ def writes(scale):
             yield w("reply", 0x51, R.bytes(2) + bytes([R.below(3)]), R.bytes(n))
             yield w("reply", 0x50, R.bytes(2) + u16(max(0, 8 * n - R.below(8))), R.bytes(n))
             yield w("reply", 0x50, R.bytes(2) + u16(R.below(24)), R.bytes(n))
+
+
+def writes_at_limits():
     for b in range(256):
         yield w("command", 0x6B, b"\0\1\0\1\1", bytes([b]))
     for n in (254, 255, 256, 257):
@@ -250,6 +239,20 @@ def writes(scale):
         yield w("reply", 0x50, b"\0\0\xff\xff", f"A5*{n}")
 
 
+def other_writes(scale):
+    """kinds that no write above names: the fields and the tail of a good payload, and a tail that is a byte longer"""
+    for kind in KINDS:
+        if (kind.side, kind.code) in WRITTEN:
+            continue
+        for n in 4 * scale * kind.tried:
+            parts = list(zip(kind.fields, pieces(kind, n)))
+            fixed = b"".join(b for field, b in parts if not is_tail(field) and field not in ("len8", "len16"))
+            tail = b"".join(b for field, b in parts if is_tail(field))
+            yield w(kind.side, kind.code, fixed, tail)
+            if is_tail(kind.fields[-1]):
+                yield w(kind.side, kind.code, fixed, tail + R.bytes(1))
+
+
 def bits():
     for n in range(34):
         for k in range(5):
@@ -261,23 +264,22 @@ def bits():
 
 
 def records(scale):
-    lists = [(0x69, 14, led), (0x68, 4, out_list)]
-    for code, width, good in lists:
+    for kind in (LED, OUT):
         for n in (0, 1, 2, 3, 4, 9):
             for _ in range(scale):
-                p = good(n)
+                p = good(kind, n)
                 for k in sorted({0, 1, max(0, n - 1), n, n + 1, 255, 2**32, TOP - 1, TOP}):
-                    yield f"record {code:02X} {k} {spell(p)}"
-                for q in (p[:-1], p + b"\0", p + R.bytes(width)):
-                    yield f"record {code:02X} {R.below(n + 1)} {spell(q)}"
+                    yield f"record {kind.code:02X} {k} {spell(p)}"
+                for q in (p[:-1], p + b"\0", p + R.bytes(kind.step)):
+                    yield f"record {kind.code:02X} {R.below(n + 1)} {spell(q)}"
         for b in range(256):
-            yield f"record {code:02X} 1 {spell(good(1) + bytes([0, b]) + bytes([b] * (width - 2)))}"
+            yield f"record {kind.code:02X} 1 {spell(good(kind, 1) + bytes([0, b]) + bytes([b] * (kind.step - 2)))}"
 
 
 def walks(scale):
     for n in (0, 1, 2, 3, 9):
         for _ in range(scale):
-            p = led(n)
+            p = good(LED, n)
             yield f"walk {spell(p)}"
             yield f"walk {spell(R.bytes(14 * n + 1 + R.below(13)))}"
             yield f"walk {spell(R.bytes(14 * n))}"
@@ -291,14 +293,15 @@ def places(scale):
     """the single OUT record at a place, and a record of either list written at a place"""
     for n in (0, 1, 2, 9):
         for _ in range(scale):
-            for q in (out_list(n), R.bytes(4 * n + 3)):
+            for q in (good(OUT, n), R.bytes(4 * n + 3)):
                 spots = {0, 1, 3, 4, 5, len(q) - 5, len(q) - 4, len(q) - 3, len(q) - 1, len(q), len(q) + 1}
                 for at in sorted(x for x in spots if x >= 0) + [2**32, TOP - 3, TOP]:
                     yield f"read-at {at} {spell(q)}"
-    for code, width, good in ((0x69, 14, led), (0x68, 4, out_list)):
+    for kind in (LED, OUT):
+        width = kind.step
         for at in (0, 1, width, 100, 2**32, TOP - width, TOP - width + 1, TOP):
             for room in sorted({0, 1, width - 1, width, width + 1} | {at + width + d for d in (-1, 0, 1, 5) if at < 200}):
-                yield f"write-at {code:02X} {at} {room} {spell(good(1))}"
+                yield f"write-at {kind.code:02X} {at} {room} {spell(good(kind, 1))}"
 
 
 def cases(scale):
@@ -310,6 +313,8 @@ def cases(scale):
     yield from colours()
     yield from limits()
     yield from writes(scale)
+    yield from writes_at_limits()
+    yield from other_writes(scale)
     yield from bits()
     yield from records(scale)
     yield from walks(scale)

@@ -1,37 +1,22 @@
 //! What document 01 adds and the original lacks: a plain model, written for the comparison alone.
 //! Row 15 of calls that write from a buffer's front is not here: the program that compares tries buffers that are too short by itself.
-use crate::answer::Refusal;
 use crate::records::led_bytes;
+use judge::kinds::Kind;
+use judge::refusal::Refusal;
 use osdp::command::LedControl;
-
-/// The carried kinds, and the longest payload that the calls by code take.
-pub const COMMANDS: [u8; 7] = [0x69, 0x68, 0x6B, 0x73, 0x74, 0x7C, 0x80];
-pub const REPLIES: [u8; 6] = [0x50, 0x51, 0x57, 0x58, 0x41, 0xB1];
-pub const LIMIT: usize = 65_546;
 
 /// A guard with a block of 0, where the original can panic: row 5.
 pub fn block_of_zero(code: u8, len: usize) -> Refusal {
     Refusal { row: 5, code, first: 0, second: len }
 }
 
-/// Calls by code, for a code of the table: rows 14 and 28.
-pub fn by_code(carried: bool, code: u8, len: usize) -> Option<Refusal> {
-    if !carried {
-        return Some(Refusal { row: 14, code, first: 0, second: 0 });
-    }
-    (len > LIMIT).then_some(Refusal { row: 28, code, first: LIMIT, second: len })
-}
-
 /// Strict, for a payload that check passes: row 17, the first byte by offset.
-pub fn strict(code: u8, payload: &[u8]) -> Option<Refusal> {
-    let highest = |at: usize| match (code, at) {
-        (0x69, at) if [5, 6, 12, 13].contains(&(at % 14)) => 7,
-        (0x73 | 0x74 | 0x57, 1) => 0x11,
-        (0x73 | 0x74 | 0x57, 2) => 2,
-        _ => 0xFF,
-    };
-    let (first, &b) = payload.iter().enumerate().find(|&(at, &b)| b > highest(at))?;
-    Some(Refusal { row: 17, code, first, second: b.into() })
+pub fn strict(kind: &Kind, payload: &[u8]) -> Option<Refusal> {
+    let limits: Vec<(usize, u8)> = kind.limits().collect();
+    let record = if kind.step > 1 { kind.step } else { usize::MAX };
+    let above = |&(at, &b): &(usize, &u8)| limits.iter().any(|&(place, highest)| at % record == place && b > highest);
+    let (first, &b) = payload.iter().enumerate().find(above)?;
+    Some(Refusal { row: 17, code: kind.code, first, second: b.into() })
 }
 
 /// Record k of a list that was read: row 16.

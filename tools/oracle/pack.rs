@@ -1,6 +1,7 @@
 //! Cases with their answers in the vector format, which crates/vectors/README.md describes.
-use crate::answer::{Answer, Case, Refusal};
-use crate::model;
+use crate::answer::{Answer, Case};
+use judge::kinds::{Field, Kind, KINDS};
+use judge::refusal::Refusal;
 use std::borrow::Cow;
 use std::collections::BTreeMap;
 
@@ -45,12 +46,8 @@ fn put(out: &mut Vec<u8>, class: u8, code: u8, argument: usize, input: &[u8], e:
 }
 
 /// The bytes that a record's fixed fields and tail make; the length field is not among the fixed fields.
-fn joined(code: u8, fixed: &[u8], tail: &[u8]) -> Vec<u8> {
-    let wide = match code {
-        0x6B => 1,
-        0x74 | 0x57 | 0x7C => 2,
-        _ => 0,
-    };
+fn joined(kind: &Kind, fixed: &[u8], tail: &[u8]) -> Vec<u8> {
+    let wide = kind.fields.iter().find_map(|f| if let Field::Length(n) = *f { Some(n) } else { None }).unwrap_or(0);
     [fixed, &tail.len().to_le_bytes()[..wide], tail].concat()
 }
 
@@ -71,11 +68,11 @@ fn asked(case: &Case, row: u8) -> (u8, u8, usize, Cow<'_, [u8]>) {
     match case {
         Case::Table(which, b) => (0, code_of_table(*which, *b), *which, Cow::Owned(vec![*b])),
         Case::Guard(which, n, code, data) => (1 + *which as u8, *code, *n, data.into()),
-        Case::Payload { is_reply, of_kind, code, payload } => {
+        Case::Payload { side, of_kind, code, payload } => {
             let calls = if *of_kind { OF_KIND } else if [1, 2, 14, 28].contains(&row) { BY_CODE } else { ALL };
-            (5 + u8::from(*is_reply), *code, calls, payload.into())
+            (5 + *side as u8, *code, calls, payload.into())
         }
-        Case::Write { is_reply, code, fixed, tail } => (7 + u8::from(*is_reply), *code, fixed.len(), [&fixed[..], tail].concat().into()),
+        Case::Write { side, code, fixed, tail } => (7 + *side as u8, *code, fixed.len(), [&fixed[..], tail].concat().into()),
         Case::Bits(count, data) => (9, 0x50, usize::from(*count), data.into()),
         Case::Record { code, k, payload } => (10, *code, *k, payload.into()),
         Case::Walk { place: None, payload } => (11, 0x69, 0, payload.into()),
@@ -97,8 +94,8 @@ pub fn pack(out: &mut Vec<u8>, tally: &mut Tally, case: &Case, answer: &Answer) 
     if let (Case::WriteAt { room, .. }, 0) = (case, e.row) {
         e.second = *room;
     }
-    if let Answer::Read { parts, wrote, .. } = answer {
-        assert!(*wrote == joined(code, &parts.fixed, &parts.tail), "the bytes written are not the fields and the tail");
+    if let Answer::Read { kind, parts, wrote, .. } = answer {
+        assert!(*wrote == joined(kind, &parts.fixed, &parts.tail), "the bytes written are not the fields and the tail");
     }
     put(out, class, code, argument, &input, e, output);
     tally.count(class, code, e.row);
@@ -123,10 +120,9 @@ impl Tally {
         let rows: Vec<String> = self.rows.iter().map(|(row, n)| format!("{row}: {n}")).collect();
         eprintln!("{} cases; by row, 0 for none: {}", self.cases, rows.join(", "));
         let mut lacking: Vec<String> = (1..=17).chain([28]).filter(|r| !self.rows.contains_key(r)).map(|r| format!("row {r}")).collect();
-        for (kinds, reads, writes) in [(&model::COMMANDS[..], 5, 7), (&model::REPLIES[..], 6, 8)] {
-            for (class, what) in [(reads, "read"), (writes, "written")] {
-                lacking.extend(kinds.iter().filter(|&&c| !self.accepted.contains_key(&(class, c))).map(|c| format!("{c:02X} {what}")));
-            }
+        for (class, what) in [(5, "read"), (7, "written")] {
+            let never = |k: &&Kind| !self.accepted.contains_key(&(class + k.side as u8, k.code));
+            lacking.extend(KINDS.iter().filter(never).map(|k| format!("{} {what}", k.name)));
         }
         if !lacking.is_empty() {
             eprintln!("never: {}", lacking.join(", "));

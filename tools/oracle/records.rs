@@ -1,4 +1,6 @@
 //! Records of the original, taken apart and made: the fixed fields in the order of the Rust struct, each number little-endian, and the tail.
+use judge::kinds::Side;
+use judge::read::Record;
 use osdp::command::{self as cmd, led::LedColor, led::LedRecord, output::OutputRecord, Command};
 use osdp::reply::{self as rep, Reply};
 
@@ -24,7 +26,14 @@ pub fn output_bytes(r: &OutputRecord) -> Vec<u8> {
 }
 
 /// None: not one of the carried kinds.
-pub fn of_command(c: &Command) -> Option<Parts> {
+pub fn parts_of(r: &Record) -> Option<Parts> {
+    match r {
+        Record::Command(c) => of_command(c),
+        Record::Reply(r) => of_reply(r),
+    }
+}
+
+fn of_command(c: &Command) -> Option<Parts> {
     match c {
         Command::Led(l) => parts(l.records.iter().flat_map(led_bytes).collect(), &[]),
         Command::Output(o) => parts(o.records.iter().flat_map(output_bytes).collect(), &[]),
@@ -37,7 +46,7 @@ pub fn of_command(c: &Command) -> Option<Parts> {
     }
 }
 
-pub fn of_reply(r: &Reply) -> Option<Parts> {
+fn of_reply(r: &Reply) -> Option<Parts> {
     match r {
         Reply::Raw(x) => parts([&[x.reader, x.format_code][..], &x.bit_count.to_le_bytes()].concat(), &x.bits),
         Reply::Fmt(x) => parts(vec![x.reader, x.direction, x.char_count], &x.chars),
@@ -78,7 +87,14 @@ fn bio_head(f: &[u8]) -> Option<(u8, cmd::BioType, cmd::BioFormat, u8)> {
 }
 
 /// None: no record of the original has these fields (a byte that no code has, a wrong number of bytes).
-pub fn to_command(code: u8, f: &[u8], tail: Vec<u8>) -> Option<Command> {
+pub fn record_of(side: Side, code: u8, fixed: &[u8], tail: Vec<u8>) -> Option<Record> {
+    match side {
+        Side::Command => to_command(code, fixed, tail).map(Record::Command),
+        Side::Reply => to_reply(code, fixed, tail).map(Record::Reply),
+    }
+}
+
+fn to_command(code: u8, f: &[u8], tail: Vec<u8>) -> Option<Command> {
     Some(match code {
         0x69 if f.len() % 14 == 0 && tail.is_empty() => {
             Command::Led(cmd::LedControl::new(f.chunks_exact(14).map(led_record).collect::<Option<_>>()?))
@@ -113,7 +129,7 @@ pub fn to_command(code: u8, f: &[u8], tail: Vec<u8>) -> Option<Command> {
     })
 }
 
-pub fn to_reply(code: u8, f: &[u8], tail: Vec<u8>) -> Option<Reply> {
+fn to_reply(code: u8, f: &[u8], tail: Vec<u8>) -> Option<Reply> {
     Some(match code {
         0x50 if f.len() == 4 => Reply::Raw(rep::Raw { reader: f[0], format_code: f[1], bit_count: u16::from_le_bytes([f[2], f[3]]), bits: tail }),
         0x51 if f.len() == 3 => Reply::Fmt(rep::Fmt { reader: f[0], direction: f[1], char_count: f[2], chars: tail }),

@@ -5,15 +5,11 @@ use payload_util::Guard;
 use payload_util::Refusal;
 use payload_util::Written;
 use payload_util::put_bytes;
-use payload_util::put_checked;
+use payload_util::put_payload;
 use payload_util::require_exact_len;
 use payload_util::tail_where;
-ghost use mathlib.Core.Path.{_≡_};
-ghost use Prim.Native.Nat.{_≤_};
-ghost use lib.ListN.{length};
-ghost use Rattle.payload_util.specs.Form.{normalised};
-ghost use Rattle.bio.specs.Bio.{checkBioReadR, bioReadROutcome, readBioReadR, bioReadRTail, writeBioReadR, bioReadRForm};
-ghost use Rattle.bio.specs.Bio.{checkBioMatchR, bioMatchROf, bioMatchROutcome, readBioMatchR, writeBioMatchR, bioMatchRForm};
+ghost use Rattle.payload_util.specs.Prelude.{_≡_, _≤_, length, check, fields, read, tail, write, normalise};
+ghost use Rattle.bio.specs.Bio.{bioReadROutcome, bioMatchROutcome, bioReadR, bioMatchR};
 
 // osdp_BIOREADR: the sample's type, format and quality. The sample is the tail; its layout is BIOMATCH's.
 pub struct BioReadR {
@@ -31,13 +27,13 @@ impl BioReadR {
     pub const WIRE_LEN: usize = BioHead::TEMPLATE_AT;
 
     pub fn check(p: &[u8]) -> Guard
-        ensures { λ r. ⌜ r ≡ checkBioReadR (now (p .entry)) ⌝ }
+        ensures { λ r. ⌜ r ≡ check bioReadR (now (p .entry)) ⌝ }
     {
         BioHead::check_template(p, Self::CODE)
     }
 
     pub fn decode(p: &[u8]) -> BioReadRRead
-        ensures { λ r. ⌜ bioReadROutcome r ≡ readBioReadR (now (p .entry)) ⌝ }
+        ensures { λ r. ⌜ bioReadROutcome r ≡ read bioReadR (now (p .entry)) ⌝ }
     {
         match BioHead::decode_template(p, Self::CODE) {
             BioHeadRead::Read(head) => BioReadRRead::Read(BioReadR { head }),
@@ -47,20 +43,20 @@ impl BioReadR {
 
     // The sample, a template or raw; nothing where reading refuses.
     pub fn data(p: &[u8]) -> &[u8]
-        ensures { λ r. ⌜ now r ≡ bioReadRTail (now (p .entry)) ⌝ }
+        ensures { λ r. ⌜ now r ≡ tail bioReadR (now (p .entry)) ⌝ }
     {
         tail_where(Self::check(p), p, Self::WIRE_LEN)
     }
 
     pub fn encode(self, sample: &[u8], out: &mut [u8]) -> Written
-        ensures { λ r. ⌜ (r, now (out .exit)) ≡ writeBioReadR self (now (sample .entry)) (now (out .entry)) ⌝ }
+        ensures { λ r. ⌜ (r, now (out .exit)) ≡ write bioReadR self (now (sample .entry)) (now (out .entry)) ⌝ }
     {
         let head = self.head;
         head.encode_template(sample, Self::CODE, out)
     }
 
     pub fn normalise(p: &[u8], out: &mut [u8]) -> Written
-        ensures { λ r. ⌜ (r, now (out .exit)) ≡ normalised bioReadRForm (now (p .entry)) (now (out .entry)) ⌝ }
+        ensures { λ r. ⌜ (r, now (out .exit)) ≡ normalise bioReadR (now (p .entry)) (now (out .entry)) ⌝ }
     {
         BioHead::normalise_template(p, Self::CODE, out)
     }
@@ -84,13 +80,13 @@ impl BioMatchR {
     pub const WIRE_LEN: usize = 3;
 
     pub fn check(p: &[u8]) -> Guard
-        ensures { λ r. ⌜ r ≡ checkBioMatchR (now (p .entry)) ⌝ }
+        ensures { λ r. ⌜ r ≡ check bioMatchR (now (p .entry)) ⌝ }
     {
         require_exact_len(p, Self::WIRE_LEN, Self::CODE)
     }
 
     pub fn decode(p: &[u8]) -> BioMatchRRead
-        ensures { λ r. ⌜ bioMatchROutcome r ≡ readBioMatchR (now (p .entry)) ⌝ }
+        ensures { λ r. ⌜ bioMatchROutcome r ≡ read bioMatchR (now (p .entry)) ⌝ }
     {
         let checked = Self::check(p);
         let Guard::Pass = checked else {
@@ -101,7 +97,7 @@ impl BioMatchR {
 
     fn fields(p: &[u8]) -> BioMatchR
         requires { ⌜ 3 ≤ length (now p) ⌝ }
-        ensures { λ r. ⌜ r ≡ bioMatchROf (now (p .entry)) ⌝ }
+        ensures { λ r. ⌜ r ≡ fields bioMatchR (now (p .entry)) ⌝ }
     {
         BioMatchR {
             reader: p[0],
@@ -111,7 +107,7 @@ impl BioMatchR {
     }
 
     pub fn encode(self, out: &mut [u8]) -> Written
-        ensures { λ r. ⌜ (r, now (out .exit)) ≡ writeBioMatchR self (now (out .entry)) ⌝ }
+        ensures { λ r. ⌜ (r, now (out .exit)) ≡ write bioMatchR self (now (out .entry)) ⌝ }
     {
         put_bytes(
             &[self.reader, self.result, self.score],
@@ -123,8 +119,8 @@ impl BioMatchR {
 
     // Reading loses nothing: an accepted payload is written as it came.
     pub fn normalise(p: &[u8], out: &mut [u8]) -> Written
-        ensures { λ r. ⌜ (r, now (out .exit)) ≡ normalised bioMatchRForm (now (p .entry)) (now (out .entry)) ⌝ }
+        ensures { λ r. ⌜ (r, now (out .exit)) ≡ normalise bioMatchR (now (p .entry)) (now (out .entry)) ⌝ }
     {
-        put_checked(Self::check(p), p, &[], Self::CODE, out)
+        put_payload(Self::check(p), p, Self::CODE, out)
     }
 }

@@ -1,26 +1,32 @@
 -- The biometric head, a head with a template under any code, and the part of BIOREAD and BIOMATCH in demand 3.
 -- Assumes nothing.
 use mathlib.Core.Path.{_≡_, refl, sym, ap, _∙_}
-use mathlib.Core.List.{List, [], _++_}
+use mathlib.Core.List.{List, [], _∷_, _++_}
 use Prim.Native.Nat.{ℕ, _≤_}
 use native.Mathlib.Omega.{arith}
 use lib.ListN.{length, drop}
-use Rattle.payload_util.specs.Bytes.{Bytes, byteAt, wordAt, word}
-use Rattle.payload_util.specs.Loss.{keep, without}
-use Rattle.payload_util.specs.Form.{tailed}
+use Rattle.payload_util.specs.Bytes.{Bytes, byteAt, u16At, u16Bytes}
+use Rattle.payload_util.specs.Loss.{keep, onlyAt, without, withinLimits}
+use Rattle.payload_util.specs.Guards.{exactLen, atLeast, declaredLen, atMost}
+use Rattle.payload_util.specs.Refusals.{_also_, inOrder}
 use Rattle.payload_util.specs.Outcome.{gives, refuses, outcome}
+use Rattle.payload_util.specs.Form.{read}
 use Rattle.payload_util.specs.declared.Refusal.{Refusal}
 use Rattle.payload_util.specs.declared.Guard.{Guard}
 use Rattle.payload_util.specs.declared.Guard.the-variants.{Pass, Refused}
-use Rattle.payload_util.proofs.Guards.{exact-pass, counted-pass, gives-pass}
+use Rattle.payload_util.proofs.Guards.{exact-pass, head-and-tail-pass, gives-pass}
+use Rattle.payload_util.proofs.InOrder.{also-none}
+use Rattle.payload_util.proofs.Limits.{limitAt, by-limits}
 use Rattle.payload_util.proofs.Words.{fits-word, low-byte, high-byte}
+use Rattle.payload_util.proofs.Parts.{by-head, ended}
+use Rattle.payload_util.proofs.Losses.{length-keep}
 use Rattle.payload_util.proofs.Scheme.{Law}
-use Rattle.payload_util.proofs.Forms.{fixed-law, tailed-law, by-head, ended}
+use Rattle.payload_util.proofs.Forms.{fixed-law, tailed-law}
 use Rattle.biometric.specs.declared.BioHead.{BioHead}
 use Rattle.biometric.specs.declared.BioHeadRead.{BioHeadRead}
 use Rattle.biometric.specs.declared.BioHeadRead.the-variants.{Read, Refused as RefusedHead}
-use Rattle.biometric.specs.Biometric.{headOf, headOutcome, headBytes, bioLimits, bioLoss, checkTemplate, templateOf, refuseTemplate, templateBytes, writeTemplate}
-use Rattle.biometric.specs.Biometric.{bioReadCode, checkBioRead, bioReadOf, bioReadBytes, bioReadForm, bioMatchCode, bioMatchForm}
+use Rattle.biometric.specs.Biometric.{highestType, highestFormat, headOf, headOutcome, headBytes, bioLimits, bioLoss, checkTemplate, templated, headed}
+use Rattle.biometric.specs.Biometric.{bioRead, bioMatch}
 use Rattle.biometric.proofs.Codes.{bio-type-back, bio-format-back, bio-type-kept, bio-format-kept}
 
 -- a refusal is given where a check refuses
@@ -30,6 +36,19 @@ refuses-refused (Refused r) a e h = cc
 
 -- ---- the head
 
+-- its limits are two: type and format
+pub head-limits : (number code : ℕ) (p : List ℕ)
+    → (limitAt number code highestType p 1 also limitAt number code highestFormat p 2) ≡ withinLimits number code bioLoss p
+unfolding inOrder
+head-limits number code p = sym (by-limits number code bioLoss p 3 (omega arith) ∙ simp also-none)
+
+-- they are folded one after the other
+pub head-folded : (p : List ℕ) → keep (onlyAt 2 highestFormat) (keep (onlyAt 1 highestType) p) ≡ keep bioLimits p
+head-folded [] = refl
+head-folded (a ∷ []) = refl
+head-folded (a ∷ b ∷ []) = refl
+head-folded (a ∷ b ∷ d ∷ p) = refl
+
 -- written anew before the rest of the payload, it is the payload without what is lost
 pub head-kept : (p : List ℕ) → Bytes p → 4 ≤ length p → headBytes (headOf p) ++ drop 4 p ≡ without bioLoss p
 head-kept p b h =
@@ -38,46 +57,52 @@ head-kept p b h =
 head-back : (h : BioHead) (t : List ℕ) → headOf (headBytes h ++ t) ≡ h
 head-back h t = simp (bio-type-back, bio-format-back)
 
-pub bio-read-law : Law bioReadCode bioReadForm bioLoss
+pub bio-read-law : Law bioRead
+unfolding exactLen
 bio-read-law =
-    fixed-law checkBioRead bioReadOf (λ r. Pass) bioReadCode bioReadBytes
+    fixed-law
     (λ p b g.
-    let e = exact-pass 4 bioReadCode p g in
+    let e = exact-pass 4 _ p g in
     rw (ended 4 p e) at (head-kept p b (omega arith)))
-    (λ p b g. refl) (λ r w. ap (λ (h : BioHead). record { head = h }) (head-back (r .head) []))
+    (λ p b g. refl) (λ r w. ap (λ (h : BioHead). record { head = h }) (head-back (r .head) [])) (λ p g. simp length-keep g)
 
 -- ---- a head with a template, under any code
 
 module _ (code : ℕ) (p : List ℕ) (g : checkTemplate code p ≡ Pass) where
-  pub template-pass : (6 ≤ length p) × (length (drop 6 p) ≡ wordAt p 4)
+  pub template-pass : (6 ≤ length p) × (length (drop 6 p) ≡ u16At p 4)
   unfolding checkTemplate
-  template-pass = counted-pass 6 code p (wordAt p 4) g
+  template-pass = head-and-tail-pass 6 code p (u16At p 4) g
 
   -- the length is written as it was read
-  length-kept : Bytes p → word (length (drop 6 p)) ++ drop 6 p ≡ drop 4 p
+  length-kept : Bytes p → u16Bytes (length (drop 6 p)) ++ drop 6 p ≡ drop 4 p
   length-kept b = by-head 6 p (drop 4) (template-pass .0) (simp (template-pass .1, low-byte p 4 5 b, high-byte p 4 5 b))
 
-  template-fits : Bytes p → refuseTemplate code (drop 6 p) ≡ Pass
+  template-fits : Bytes p → atMost 65535 code (drop 6 p) ≡ Pass
   template-fits b = fits-word p code 6 4 5 b (template-pass .1)
+
+  template-steady : checkTemplate code (keep bioLimits p) ≡ Pass
+  unfolding checkTemplate atLeast declaredLen
+  template-steady =
+      let same : u16At (keep bioLimits p) 4 ≡ u16At p 4 = sym (by-head 6 p (λ q. u16At (keep bioLimits q) 4) (template-pass .0) refl) in
+      simp (length-keep, same) g
 
 -- A record whose one field is a head: BIOMATCH, and BIOREADR in crate bio.
 module _ {A : Type 0} (wrap : BioHead → A) (head : A → BioHead) (there : (h : BioHead) → head (wrap h) ≡ h) (back : (a : A) → wrap (head a) ≡ a)
     (code : ℕ) where
-  pub template-law : Law code (tailed A (checkTemplate code) (λ p. outcome (checkTemplate code p) (wrap (headOf p))) (templateOf code)
-      (λ a t out. writeTemplate code (head a) t out)) bioLoss
+  pub template-law : Law (templated code wrap head)
   template-law =
-      tailed-law (checkTemplate code) (λ p. wrap (headOf p)) (drop 6) (λ a t. refuseTemplate code t) code (λ a t. templateBytes (head a) t) 6
+      tailed-law 6
       (λ p b g.
       let h = template-pass code p g .0 in
       simp (there, length-kept code p g b) (head-kept p b (omega arith)))
       (λ p b g. template-fits code p g b)
-      (λ a t w. ap wrap (head-back (head a) (word (length t) ++ t)) ∙ back a) (λ a t. refl)
+      (λ a t w. ap wrap (head-back (head a) (u16Bytes (length t) ++ t)) ∙ back a) (λ a t. refl) (template-steady code)
 
-pub bio-match-law : Law bioMatchCode bioMatchForm bioLoss
-bio-match-law = template-law (λ h. record { head = h }) (λ m. m .head) (λ h. refl) (λ m. refl) bioMatchCode
+pub bio-match-law : Law bioMatch
+bio-match-law = template-law (λ h. record { head = h }) (λ m. m .head) (λ h. refl) (λ m. refl) _
 
 -- The reader of such a record: x is what reading the head gave, and is wrapped, or its refusal handed on.
-module _ {A : Type 0} (wrap : BioHead → A) (code : ℕ) (p : List ℕ) {x : BioHeadRead} (is : headOutcome x ≡ outcome (checkTemplate code p) (headOf p)) where
+module _ {A : Type 0} (wrap : BioHead → A) (code : ℕ) (p : List ℕ) {x : BioHeadRead} (is : headOutcome x ≡ read (headed code) p) where
   pub wrapped : {h : BioHead} → x ≡ Read h → gives (wrap h) ≡ outcome (checkTemplate code p) (wrap (headOf p))
   wrapped {h} e =
       let (pass, same) = gives-pass (checkTemplate code p) (headOf p) h (sym is ∙ ap headOutcome e) in

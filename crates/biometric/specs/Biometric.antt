@@ -1,42 +1,73 @@
 -- osdp_BIOREAD (0x73), §6.14: reader, type, format, quality.
 -- osdp_BIOMATCH (0x74), §6.15: the same four, length u16, template.
-use mathlib.Core.List.{List, _∷_, [], _++_}
-use Prim.Native.Nat.{ℕ}
-use lib.ListN.{length, drop}
-use Rattle.payload_util.specs.Bytes.{byteAt, wordAt, word}
-use Rattle.payload_util.specs.Guards.{exactLen, counted, atMost}
-use Rattle.payload_util.specs.Outcome.{Outcome, gives, refuses, outcome, tailWhere}
-use Rattle.payload_util.specs.Writing.{Left, put, write}
-use Rattle.payload_util.specs.Loss.{Keep, any, upTo, Loss, above}
-use Rattle.payload_util.specs.Form.{Form, fixed, tailed}
-use Rattle.payload_util.specs.declared.Guard.{Guard}
-use Rattle.biometric.specs.declared.BioType.{BioType}
-use Rattle.biometric.specs.declared.BioFormat.{BioFormat}
-use Rattle.biometric.specs.declared.BioHead.{BioHead}
-use Rattle.biometric.specs.declared.BioHeadRead.{BioHeadRead}
-use Rattle.biometric.specs.declared.BioHeadRead.the-variants.{Read as ReadHead, Refused as RefusedHead}
-use Rattle.biometric.specs.declared.BioRead.{BioRead}
-use Rattle.biometric.specs.declared.BioReadRead.{BioReadRead}
-use Rattle.biometric.specs.declared.BioReadRead.the-variants.{Read as ReadBioRead, Refused as RefusedBioRead}
-use Rattle.biometric.specs.declared.BioMatch.{BioMatch}
-use Rattle.biometric.specs.declared.BioMatchRead.{BioMatchRead}
-use Rattle.biometric.specs.declared.BioMatchRead.the-variants.{Read as ReadBioMatch, Refused as RefusedBioMatch}
-use Rattle.biometric.specs.Codes.{bioTypeByte, bioTypeOf, highestType, bioFormatByte, bioFormatOf, highestFormat}
+use Rattle.payload_util.specs.Prelude.{List, [], _∷_, _++_, ℕ, length, drop, byteAt, u16At, u16Bytes, exactLen, headAndTail, atMost}
+use Rattle.payload_util.specs.Prelude.{named, Keep, any, upTo, Loss, above, Outcome, gives, refuses, Form, fixed, tailed}
+use Rattle.payload_util.specs.declared.{Guard.Guard, Guard.the-variants.Pass}
+use Rattle.biometric.specs.declared.{BioHead.BioHead, BioRead.BioRead, BioMatch.BioMatch}
+use Rattle.biometric.specs.declared.{BioHeadRead.BioHeadRead, BioReadRead.BioReadRead, BioMatchRead.BioMatchRead}
+use Rattle.biometric.specs.declared.BioHeadRead.the-variants.{Read as HeadRead, Refused as HeadRefused}
+use Rattle.biometric.specs.declared.BioReadRead.the-variants.{Read, Refused}
+use Rattle.biometric.specs.declared.BioMatchRead.the-variants.{Read as MatchRead, Refused as MatchRefused}
+use Rattle.biometric.specs.declared.{BioType.BioType, BioFormat.BioFormat}
+use Rattle.biometric.specs.declared.BioType.the-variants.{NotSpecified, RightThumb, RightIndex, RightMiddle, RightRing, RightLittle, LeftThumb, LeftIndex, LeftMiddle, LeftRing, LeftLittle, RightIris, RightRetina, LeftIris, LeftRetina, Face, RightHandGeometry, LeftHandGeometry}
+use Rattle.biometric.specs.declared.BioFormat.the-variants.{NotSpecified as NoFormat, FingerprintRawPgm, FingerprintAnsi378}
 
--- ---- the head that BIOREAD, BIOMATCH and BIOREADR begin with
+-- Table 24
+abbrev pub bioTypeByte : BioType → ℕ
+bioTypeByte NotSpecified = 0x00
+bioTypeByte RightThumb = 0x01
+bioTypeByte RightIndex = 0x02
+bioTypeByte RightMiddle = 0x03
+bioTypeByte RightRing = 0x04
+bioTypeByte RightLittle = 0x05
+bioTypeByte LeftThumb = 0x06
+bioTypeByte LeftIndex = 0x07
+bioTypeByte LeftMiddle = 0x08
+bioTypeByte LeftRing = 0x09
+bioTypeByte LeftLittle = 0x0A
+bioTypeByte RightIris = 0x0B
+bioTypeByte RightRetina = 0x0C
+bioTypeByte LeftIris = 0x0D
+bioTypeByte LeftRetina = 0x0E
+bioTypeByte Face = 0x0F
+bioTypeByte RightHandGeometry = 0x10
+bioTypeByte LeftHandGeometry = 0x11
 
-abbrev pub bioHead : ℕ → BioType → BioFormat → ℕ → BioHead
-bioHead reader type format quality = record { reader = reader; «bio_type» = type; «bio_format» = format; quality = quality }
+abbrev pub bioTypes : List BioType
+bioTypes =
+    NotSpecified ∷ RightThumb ∷ RightIndex ∷ RightMiddle ∷ RightRing ∷ RightLittle ∷ LeftThumb ∷ LeftIndex ∷ LeftMiddle
+    ∷ LeftRing ∷ LeftLittle ∷ RightIris ∷ RightRetina ∷ LeftIris ∷ LeftRetina ∷ Face ∷ RightHandGeometry
+    ∷ LeftHandGeometry ∷ []
+
+-- any other byte is NotSpecified
+unfoldable pub bioTypeOf : ℕ → BioType
+bioTypeOf b = named bioTypeByte (λ c. c) NotSpecified bioTypes b
+
+abbrev pub highestType : ℕ
+highestType = 0x11
+
+-- Table 25
+abbrev pub bioFormatByte : BioFormat → ℕ
+bioFormatByte NoFormat = 0x00
+bioFormatByte FingerprintRawPgm = 0x01
+bioFormatByte FingerprintAnsi378 = 0x02
+
+abbrev pub bioFormats : List BioFormat
+bioFormats = NoFormat ∷ FingerprintRawPgm ∷ FingerprintAnsi378 ∷ []
+
+-- any other byte is NotSpecified
+unfoldable pub bioFormatOf : ℕ → BioFormat
+bioFormatOf b = named bioFormatByte (λ c. c) NoFormat bioFormats b
+
+abbrev pub highestFormat : ℕ
+highestFormat = 2
 
 abbrev pub headOf : List ℕ → BioHead
-headOf p = bioHead (byteAt p 0) (bioTypeOf (byteAt p 1)) (bioFormatOf (byteAt p 2)) (byteAt p 3)
+headOf p =
+    record { reader = byteAt p 0; «bio_type» = bioTypeOf (byteAt p 1); «bio_format» = bioFormatOf (byteAt p 2); quality = byteAt p 3 }
 
 abbrev pub headBytes : BioHead → List ℕ
 headBytes h = h .reader ∷ bioTypeByte (h .«bio_type») ∷ bioFormatByte (h .«bio_format») ∷ h .quality ∷ []
-
-abbrev pub headOutcome : BioHeadRead → Outcome BioHead
-headOutcome (ReadHead h) = gives h
-headOutcome (RefusedHead e) = refuses e
 
 -- reading loses a type and a format above the highest
 abbrev pub bioLimits : List Keep
@@ -45,75 +76,46 @@ bioLimits = any ∷ upTo highestType ∷ upTo highestFormat ∷ []
 abbrev pub bioLoss : Loss
 bioLoss = above bioLimits
 
--- ---- a head with a template, under the code of BIOMATCH or BIOREADR
-
--- rows 4 and 6
 unfoldable pub checkTemplate : ℕ → List ℕ → Guard
-checkTemplate code p = counted 6 (wordAt p 4) code p
+checkTemplate code p = headAndTail 6 (u16At p 4) code p
 
-abbrev pub templateOf : ℕ → List ℕ → List ℕ
-templateOf code p = tailWhere (checkTemplate code p) (drop 6 p)
+-- the row of a record that holds a head: rows 4 and 6 of a payload, row 12 of a record
+abbrev pub templated : {A : Type 0} → ℕ → (BioHead → A) → (A → BioHead) → Form
+templated code wrap head = tailed (record {
+  code = code;
+  check = checkTemplate;
+  fields = λ p. wrap (headOf p);
+  rest = drop 6;
+  refuse = λ c a t. atMost 65535 c t;
+  bytes = λ a t. headBytes (head a) ++ u16Bytes (length t) ++ t;
+  loss = bioLoss;
+})
 
--- row 12
-abbrev pub refuseTemplate : ℕ → List ℕ → Guard
-refuseTemplate code t = atMost 65535 code t
+abbrev pub headOutcome : BioHeadRead → Outcome BioHead
+headOutcome (HeadRead h) = gives h
+headOutcome (HeadRefused e) = refuses e
 
-abbrev pub templateBytes : BioHead → List ℕ → List ℕ
-templateBytes h t = headBytes h ++ word (length t) ++ t
-
-abbrev pub writeTemplate : ℕ → BioHead → List ℕ → List ℕ → Left
-writeTemplate code h t out = write (refuseTemplate code t) code (templateBytes h t) out
-
--- ---- BIOREAD
-
-abbrev pub bioReadCode : ℕ
-bioReadCode = 0x73
-
-abbrev pub checkBioRead : List ℕ → Guard
-checkBioRead p = exactLen 4 bioReadCode p
-
-abbrev pub bioReadOf : List ℕ → BioRead
-bioReadOf p = record { head = headOf p }
+-- the head by itself
+abbrev pub headed : ℕ → Form
+headed code = templated code (λ h. h) (λ h. h)
 
 abbrev pub bioReadOutcome : BioReadRead → Outcome BioRead
-bioReadOutcome (ReadBioRead r) = gives r
-bioReadOutcome (RefusedBioRead e) = refuses e
+bioReadOutcome (Read r) = gives r
+bioReadOutcome (Refused e) = refuses e
 
-abbrev pub readBioRead : List ℕ → Outcome BioRead
-readBioRead p = outcome (checkBioRead p) (bioReadOf p)
-
-abbrev pub bioReadBytes : BioRead → List ℕ
-bioReadBytes r = headBytes (r .head)
-
-abbrev pub writeBioRead : BioRead → List ℕ → Left
-writeBioRead r out = put bioReadCode (bioReadBytes r) out
-
-abbrev pub bioReadForm : Form
-bioReadForm = fixed BioRead checkBioRead readBioRead writeBioRead
-
--- ---- BIOMATCH
-
-abbrev pub bioMatchCode : ℕ
-bioMatchCode = 0x74
-
-abbrev pub checkBioMatch : List ℕ → Guard
-checkBioMatch p = checkTemplate bioMatchCode p
-
-abbrev pub bioMatchOf : List ℕ → BioMatch
-bioMatchOf p = record { head = headOf p }
+abbrev pub bioRead : Form
+bioRead = fixed {A = BioRead} (record {
+  code = 0x73;
+  check = exactLen 4;
+  fields = λ p. record { head = headOf p };
+  refuse = λ c r. Pass;
+  bytes = λ r. headBytes (r .head);
+  loss = bioLoss;
+})
 
 abbrev pub bioMatchOutcome : BioMatchRead → Outcome BioMatch
-bioMatchOutcome (ReadBioMatch m) = gives m
-bioMatchOutcome (RefusedBioMatch e) = refuses e
+bioMatchOutcome (MatchRead m) = gives m
+bioMatchOutcome (MatchRefused e) = refuses e
 
-abbrev pub readBioMatch : List ℕ → Outcome BioMatch
-readBioMatch p = outcome (checkBioMatch p) (bioMatchOf p)
-
-abbrev pub bioMatchTail : List ℕ → List ℕ
-bioMatchTail p = templateOf bioMatchCode p
-
-abbrev pub writeBioMatch : BioMatch → List ℕ → List ℕ → Left
-writeBioMatch m t out = writeTemplate bioMatchCode (m .head) t out
-
-abbrev pub bioMatchForm : Form
-bioMatchForm = tailed BioMatch checkBioMatch readBioMatch bioMatchTail writeBioMatch
+abbrev pub bioMatch : Form
+bioMatch = templated {A = BioMatch} 0x74 (λ h. record { head = h }) (λ m. m .head)

@@ -2,27 +2,20 @@
 use payload_util::Guard;
 use payload_util::Refusal;
 use payload_util::Written;
+use payload_util::fold_at;
 use payload_util::high_byte;
 use payload_util::low_byte;
 use payload_util::put_bytes;
-use payload_util::require_at_least;
+use payload_util::put_payload;
 use payload_util::require_at_most;
-use payload_util::require_declared_len;
 use payload_util::require_exact_len;
-use payload_util::tail_from;
+use payload_util::require_head_and_tail;
+use payload_util::require_limit;
 use payload_util::tail_where;
-use payload_util::u16_of;
-ghost use mathlib.Core.Path.{_≡_};
-ghost use Prim.Native.Nat.{_≤_};
-ghost use lib.ListN.{length};
-ghost use Rattle.payload_util.specs.Outcome.{outcome};
-ghost use Rattle.payload_util.specs.Writing.{write};
-ghost use Rattle.payload_util.specs.Loss.{without};
-ghost use Rattle.payload_util.specs.Form.{normalised};
-ghost use Rattle.biometric.specs.Codes.{bioTypeByte, bioTypeOf, bioFormatByte, bioFormatOf};
-ghost use Rattle.biometric.specs.Biometric.{bioHead, headOf, headBytes, headOutcome, checkTemplate, writeTemplate, bioLoss};
-ghost use Rattle.biometric.specs.Biometric.{checkBioRead, bioReadOutcome, readBioRead, writeBioRead, bioReadForm};
-ghost use Rattle.biometric.specs.Biometric.{checkBioMatch, bioMatchOutcome, readBioMatch, bioMatchTail, writeBioMatch, bioMatchForm};
+use payload_util::u16_at;
+ghost use Rattle.payload_util.specs.Prelude.{_≡_, _≤_, length, putChecked, without, withinLimits, check, read, tail, write, normalise};
+ghost use Rattle.biometric.specs.Biometric.{bioTypeByte, bioTypeOf, bioFormatByte, bioFormatOf};
+ghost use Rattle.biometric.specs.Biometric.{headOutcome, bioReadOutcome, bioMatchOutcome, headOf, headBytes, bioLoss, checkTemplate, headed, bioRead, bioMatch};
 
 // Biometric type code (Table 24).
 pub enum BioType {
@@ -157,7 +150,7 @@ impl BioHead {
     pub const TEMPLATE_MAX: usize = 65535;
 
     pub fn new(reader: u8, bio_type: BioType, bio_format: BioFormat, quality: u8) -> BioHead
-        ensures { λ r. ⌜ r ≡ bioHead reader «bio_type» «bio_format» quality ⌝ }
+        ensures { λ r. ⌜ r ≡ record { reader = reader; «bio_type» = «bio_type»; «bio_format» = «bio_format»; quality = quality } ⌝ }
     {
         BioHead {
             reader,
@@ -189,32 +182,40 @@ impl BioHead {
         ]
     }
 
-    // What normalise writes after the checks of a kind: the head's codes folded, the rest of the payload as it came.
+    // What normalise writes after the checks of a kind: the payload as it came, and then its type and format folded.
     fn put_folded(checked: Guard, p: &[u8], code: u8, out: &mut [u8]) -> Written
         requires { ⌜ (checked ≡ Guard.Pass → 4 ≤ length (now p)) ⌝ }
-        ensures { λ r. ⌜ (r, now (out .exit)) ≡ write checked code (without bioLoss (now (p .entry))) (now (out .entry)) ⌝ }
+        ensures { λ r. ⌜ (r, now (out .exit)) ≡ putChecked checked code (without bioLoss (now (p .entry))) (now (out .entry)) ⌝ }
     {
-        let Guard::Pass = checked else {
-            return Written::Refused(checked.refusal());
+        let written = put_payload(checked, p, code, out);
+        let Written::Wrote(n) = written else {
+            return written;
         };
-        let head = Self::fields(p);
-        put_bytes(&head.bytes(), tail_from(p, Self::WIRE_LEN), code, out)
+        fold_at(out, 1, BioType::HIGHEST);
+        fold_at(out, 2, BioFormat::HIGHEST);
+        Written::Wrote(n)
+    }
+
+    // A row for the first of type and format that reading would fold.
+    pub fn within_limits(p: &[u8], number: u8, code: u8) -> Guard
+        ensures { λ r. ⌜ r ≡ withinLimits number code bioLoss (now (p .entry)) ⌝ }
+    {
+        let bio_type = require_limit(p, 1, BioType::HIGHEST, number, code);
+        let Guard::Pass = bio_type else {
+            return bio_type;
+        };
+        require_limit(p, 2, BioFormat::HIGHEST, number, code)
     }
 
     // A head with a template, for BIOMATCH and BIOREADR: each has its code.
     pub fn check_template(p: &[u8], code: u8) -> Guard
         ensures { λ r. ⌜ r ≡ checkTemplate code (now (p .entry)) ⌝ }
     {
-        let fixed = require_at_least(p, Self::TEMPLATE_AT, code);
-        let Guard::Pass = fixed else {
-            return fixed;
-        };
-        let asked = Self::TEMPLATE_AT + u16_of(p[4], p[5]) as usize;
-        require_declared_len(p, asked, code)
+        require_head_and_tail(p, Self::TEMPLATE_AT, u16_at(p, 4), code)
     }
 
     pub fn decode_template(p: &[u8], code: u8) -> BioHeadRead
-        ensures { λ r. ⌜ headOutcome r ≡ outcome (checkTemplate code (now (p .entry))) (headOf (now (p .entry))) ⌝ }
+        ensures { λ r. ⌜ headOutcome r ≡ read (headed code) (now (p .entry)) ⌝ }
     {
         let checked = Self::check_template(p, code);
         let Guard::Pass = checked else {
@@ -224,7 +225,7 @@ impl BioHead {
     }
 
     pub fn encode_template(self, template: &[u8], code: u8, out: &mut [u8]) -> Written
-        ensures { λ r. ⌜ (r, now (out .exit)) ≡ writeTemplate code self (now (template .entry)) (now (out .entry)) ⌝ }
+        ensures { λ r. ⌜ (r, now (out .exit)) ≡ write (headed code) self (now (template .entry)) (now (out .entry)) ⌝ }
     {
         let short = require_at_most(template, Self::TEMPLATE_MAX, code);
         let Guard::Pass = short else {
@@ -241,7 +242,7 @@ impl BioHead {
     }
 
     pub fn normalise_template(p: &[u8], code: u8, out: &mut [u8]) -> Written
-        ensures { λ r. ⌜ (r, now (out .exit)) ≡ write (checkTemplate code (now (p .entry))) code (without bioLoss (now (p .entry))) (now (out .entry)) ⌝ }
+        ensures { λ r. ⌜ (r, now (out .exit)) ≡ putChecked (checkTemplate code (now (p .entry))) code (without bioLoss (now (p .entry))) (now (out .entry)) ⌝ }
     {
         Self::put_folded(Self::check_template(p, code), p, code, out)
     }
@@ -263,13 +264,13 @@ impl BioRead {
     pub const WIRE_LEN: usize = BioHead::WIRE_LEN;
 
     pub fn check(p: &[u8]) -> Guard
-        ensures { λ r. ⌜ r ≡ checkBioRead (now (p .entry)) ⌝ }
+        ensures { λ r. ⌜ r ≡ check bioRead (now (p .entry)) ⌝ }
     {
         require_exact_len(p, Self::WIRE_LEN, Self::CODE)
     }
 
     pub fn decode(p: &[u8]) -> BioReadRead
-        ensures { λ r. ⌜ bioReadOutcome r ≡ readBioRead (now (p .entry)) ⌝ }
+        ensures { λ r. ⌜ bioReadOutcome r ≡ read bioRead (now (p .entry)) ⌝ }
     {
         let checked = Self::check(p);
         let Guard::Pass = checked else {
@@ -281,14 +282,14 @@ impl BioRead {
     }
 
     pub fn encode(self, out: &mut [u8]) -> Written
-        ensures { λ r. ⌜ (r, now (out .exit)) ≡ writeBioRead self (now (out .entry)) ⌝ }
+        ensures { λ r. ⌜ (r, now (out .exit)) ≡ write bioRead self (now (out .entry)) ⌝ }
     {
         let head = self.head;
         put_bytes(&head.bytes(), &[], Self::CODE, out)
     }
 
     pub fn normalise(p: &[u8], out: &mut [u8]) -> Written
-        ensures { λ r. ⌜ (r, now (out .exit)) ≡ normalised bioReadForm (now (p .entry)) (now (out .entry)) ⌝ }
+        ensures { λ r. ⌜ (r, now (out .exit)) ≡ normalise bioRead (now (p .entry)) (now (out .entry)) ⌝ }
     {
         BioHead::put_folded(Self::check(p), p, Self::CODE, out)
     }
@@ -310,13 +311,13 @@ impl BioMatch {
     pub const WIRE_LEN: usize = BioHead::TEMPLATE_AT;
 
     pub fn check(p: &[u8]) -> Guard
-        ensures { λ r. ⌜ r ≡ checkBioMatch (now (p .entry)) ⌝ }
+        ensures { λ r. ⌜ r ≡ check bioMatch (now (p .entry)) ⌝ }
     {
         BioHead::check_template(p, Self::CODE)
     }
 
     pub fn decode(p: &[u8]) -> BioMatchRead
-        ensures { λ r. ⌜ bioMatchOutcome r ≡ readBioMatch (now (p .entry)) ⌝ }
+        ensures { λ r. ⌜ bioMatchOutcome r ≡ read bioMatch (now (p .entry)) ⌝ }
     {
         match BioHead::decode_template(p, Self::CODE) {
             BioHeadRead::Read(head) => BioMatchRead::Read(BioMatch { head }),
@@ -326,20 +327,20 @@ impl BioMatch {
 
     // The template; nothing where reading refuses.
     pub fn template(p: &[u8]) -> &[u8]
-        ensures { λ r. ⌜ now r ≡ bioMatchTail (now (p .entry)) ⌝ }
+        ensures { λ r. ⌜ now r ≡ tail bioMatch (now (p .entry)) ⌝ }
     {
         tail_where(Self::check(p), p, Self::WIRE_LEN)
     }
 
     pub fn encode(self, template: &[u8], out: &mut [u8]) -> Written
-        ensures { λ r. ⌜ (r, now (out .exit)) ≡ writeBioMatch self (now (template .entry)) (now (out .entry)) ⌝ }
+        ensures { λ r. ⌜ (r, now (out .exit)) ≡ write bioMatch self (now (template .entry)) (now (out .entry)) ⌝ }
     {
         let head = self.head;
         head.encode_template(template, Self::CODE, out)
     }
 
     pub fn normalise(p: &[u8], out: &mut [u8]) -> Written
-        ensures { λ r. ⌜ (r, now (out .exit)) ≡ normalised bioMatchForm (now (p .entry)) (now (out .entry)) ⌝ }
+        ensures { λ r. ⌜ (r, now (out .exit)) ≡ normalise bioMatch (now (p .entry)) (now (out .entry)) ⌝ }
     {
         BioHead::normalise_template(p, Self::CODE, out)
     }

@@ -3,46 +3,17 @@ use payload_util::Guard;
 use payload_util::Refusal;
 use payload_util::Written;
 use payload_util::high_byte;
-use payload_util::high_half;
 use payload_util::low_byte;
-use payload_util::low_half;
 use payload_util::put_bytes;
-use payload_util::put_checked;
-use payload_util::require_at_least;
+use payload_util::put_payload;
 use payload_util::require_at_most;
-use payload_util::require_declared_len;
+use payload_util::require_head_and_tail;
 use payload_util::tail_where;
-use payload_util::u16_of;
-use payload_util::u32_of;
-ghost use mathlib.Core.Path.{_≡_};
-ghost use Prim.Native.Nat.{_+_, _≤_};
-ghost use lib.ListN.{length};
-ghost use Rattle.payload_util.specs.Bytes.{longAt, long};
-ghost use Rattle.payload_util.specs.Form.{normalised};
-ghost use Rattle.file_transfer.specs.FileTransfer.{checkFileTransfer, fileTransferOf, fileTransferOutcome, readFileTransfer, fileTransferTail, writeFileTransfer, fileTransferForm};
-
-// The number of four bytes at an offset, low byte first.
-fn u32_at(p: &[u8], at: usize) -> u32
-    requires { ⌜ at + 4 ≤ length (now p) ⌝ }
-    ensures { λ r. ⌜ r ≡ longAt (now (p .entry)) at ⌝ }
-{
-    let high = at + 2;
-    u32_of(u16_of(p[at], p[at + 1]), u16_of(p[high], p[high + 1]))
-}
-
-// The four bytes of a number.
-fn u32_bytes(n: u32) -> [u8; 4]
-    ensures { λ r. ⌜ r ≡ long n ⌝ }
-{
-    let low = low_half(n);
-    let high = high_half(n);
-    [
-        low_byte(low),
-        high_byte(low),
-        low_byte(high),
-        high_byte(high),
-    ]
-}
+use payload_util::u16_at;
+use payload_util::u32_at;
+use payload_util::u32_bytes;
+ghost use Rattle.payload_util.specs.Prelude.{_≡_, _≤_, length, check, fields, read, tail, write, normalise};
+ghost use Rattle.file_transfer.specs.FileTransfer.{fileTransferOutcome, fileTransfer};
 
 // The fixed fields; the fragment is the tail, and its length stands in no field.
 pub struct FileTransfer {
@@ -62,17 +33,13 @@ impl FileTransfer {
     pub const WIRE_LEN: usize = 11;
 
     pub fn check(p: &[u8]) -> Guard
-        ensures { λ r. ⌜ r ≡ checkFileTransfer (now (p .entry)) ⌝ }
+        ensures { λ r. ⌜ r ≡ check fileTransfer (now (p .entry)) ⌝ }
     {
-        let fixed = require_at_least(p, Self::WIRE_LEN, Self::CODE);
-        let Guard::Pass = fixed else {
-            return fixed;
-        };
-        require_declared_len(p, Self::WIRE_LEN + u16_of(p[9], p[10]) as usize, Self::CODE)
+        require_head_and_tail(p, Self::WIRE_LEN, u16_at(p, 9), Self::CODE)
     }
 
     pub fn decode(p: &[u8]) -> FileTransferRead
-        ensures { λ r. ⌜ fileTransferOutcome r ≡ readFileTransfer (now (p .entry)) ⌝ }
+        ensures { λ r. ⌜ fileTransferOutcome r ≡ read fileTransfer (now (p .entry)) ⌝ }
     {
         let checked = Self::check(p);
         let Guard::Pass = checked else {
@@ -83,7 +50,7 @@ impl FileTransfer {
 
     fn fields(p: &[u8]) -> FileTransfer
         requires { ⌜ 11 ≤ length (now p) ⌝ }
-        ensures { λ r. ⌜ r ≡ fileTransferOf (now (p .entry)) ⌝ }
+        ensures { λ r. ⌜ r ≡ fields fileTransfer (now (p .entry)) ⌝ }
     {
         FileTransfer {
             file_type: p[0],
@@ -94,13 +61,13 @@ impl FileTransfer {
 
     // The fragment; nothing where reading refuses.
     pub fn fragment(p: &[u8]) -> &[u8]
-        ensures { λ r. ⌜ now r ≡ fileTransferTail (now (p .entry)) ⌝ }
+        ensures { λ r. ⌜ now r ≡ tail fileTransfer (now (p .entry)) ⌝ }
     {
         tail_where(Self::check(p), p, Self::WIRE_LEN)
     }
 
     pub fn encode(self, fragment: &[u8], out: &mut [u8]) -> Written
-        ensures { λ r. ⌜ (r, now (out .exit)) ≡ writeFileTransfer self (now (fragment .entry)) (now (out .entry)) ⌝ }
+        ensures { λ r. ⌜ (r, now (out .exit)) ≡ write fileTransfer self (now (fragment .entry)) (now (out .entry)) ⌝ }
     {
         let short = require_at_most(fragment, 65535, Self::CODE);
         let Guard::Pass = short else {
@@ -127,8 +94,8 @@ impl FileTransfer {
 
     // Reading loses nothing: an accepted payload is written as it came.
     pub fn normalise(p: &[u8], out: &mut [u8]) -> Written
-        ensures { λ r. ⌜ (r, now (out .exit)) ≡ normalised fileTransferForm (now (p .entry)) (now (out .entry)) ⌝ }
+        ensures { λ r. ⌜ (r, now (out .exit)) ≡ normalise fileTransfer (now (p .entry)) (now (out .entry)) ⌝ }
     {
-        put_checked(Self::check(p), p, &[], Self::CODE, out)
+        put_payload(Self::check(p), p, Self::CODE, out)
     }
 }

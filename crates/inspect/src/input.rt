@@ -1,10 +1,11 @@
 // The lines of the input, one after another, and how many of each sort there were.
-use crate::answer::show;
-use crate::form::form;
-use crate::form::nth;
-use crate::line::Fault;
-use crate::line::Line;
-use crate::line::Place;
+use inspect_answer::show;
+use inspect_form::form;
+use inspect_form::out::first;
+use inspect_form::table::nth;
+use inspect_line::Fault;
+use inspect_line::Line;
+use inspect_line::Place;
 use std::num::wrapping_add_u64;
 use std::num::wrapping_add_usize;
 
@@ -22,32 +23,17 @@ pub struct Input {
     tally: Tally,
 }
 
-fn fault_place(f: Fault) -> u64 {
-    match f {
-        Fault::Word => 0,
-        Fault::NoCode => 1,
-        Fault::Code => 2,
-        Fault::Digit => 3,
-        Fault::Odd => 4,
-        Fault::TooLong => 5,
-    }
-}
-
 impl Tally {
     // A line that is no payload.
     fn complain(mut self, line: Line, f: Fault, out: &mut [u8]) -> Tally {
-        let values = [line.number as u64, line.column as u64, fault_place(f)];
+        let values = [line.number as u64, line.column as u64, f.number()];
         self.at = form(b"line %d, column %d: %e\n", &values, b"", out, self.at);
         self.bad = wrapping_add_u64(self.bad, 1);
         self
     }
 
     fn answer(mut self, line: Line, payload: &[u8], space: &mut [u8], out: &mut [u8]) -> Tally {
-        let n = line.len;
-        if payload.len() < n {
-            return self;
-        }
-        let shown = show(line, &payload[0..n], space, out, self.at);
+        let shown = show(line, first(payload, line.len), space, out, self.at);
         self.at = shown.at;
         if shown.is_refused {
             self.refused = wrapping_add_u64(self.refused, 1);
@@ -57,13 +43,11 @@ impl Tally {
         self
     }
 
-    // A line's end: a blank completes what it ends in.
     fn end_line(self, line: Line, payload: &[u8], space: &mut [u8], out: &mut [u8]) -> Tally {
-        let ended = line.step(b' ');
+        let ended = line.end();
         let place = ended.place;
         match place {
             Place::Payload | Place::Whole => self.answer(ended, payload, space, out),
-            Place::Gap => self.complain(ended, Fault::NoCode, out),
             Place::Bad(f) => self.complain(ended, f, out),
             _ => self,
         }
@@ -77,16 +61,6 @@ impl Tally {
             return false;
         }
         self.bad == 0
-    }
-}
-
-// Keeps the byte that a line has after one more byte of the input, and had not before.
-fn keep(before: usize, line: Line, payload: &mut [u8]) {
-    if line.len <= before {
-        return;
-    }
-    if before < payload.len() {
-        payload[before] = line.byte;
     }
 }
 
@@ -113,9 +87,10 @@ impl Input {
                 tally: tally.end_line(line, payload, space, out),
             };
         }
-        let next = line.step(b);
-        keep(line.len, next, payload);
-        Input { line: next, tally }
+        Input {
+            line: line.take(b, payload),
+            tally,
+        }
     }
 
     pub fn bytes(
@@ -141,8 +116,7 @@ impl Input {
         let empty = if all.is_empty() { 1 } else { 0 };
         let template = nth(
             empty,
-            b"read %d, refused %d, bad lines %d\n.no payload in the input\n.",
-            b'.',
+            b"read %d, refused %d, bad lines %d\n.no payload in the input\n",
         );
         form(
             template,

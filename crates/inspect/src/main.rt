@@ -1,13 +1,9 @@
 // Shows payloads in words: reads lines such as `command 69 00 00 ..` from standard input or from a file.
-mod answer;
-mod form;
 mod input;
-mod line;
-mod out;
-mod record;
 
 use crate::input::Input;
-use crate::line::LONGEST;
+use inspect_form::out::flush;
+use inspect_line::LONGEST;
 use libc::STDERR_FILENO;
 use libc::STDIN_FILENO;
 use libc::STDOUT_FILENO;
@@ -68,7 +64,7 @@ fn inspect(fd: i32) {
     let mut space = [0u8; LONGEST];
     let mut out = io::large_buffer();
     let at = all(fd, &mut input, &mut payload, &mut space, &mut out);
-    out::flush(&out, at);
+    flush(&out, at);
 }
 
 fn inspect_file(name: &[u8]) {

@@ -9,14 +9,18 @@ use lib.Dec.{eqb, eqb→eq}
 use lib.ListN.{length, getD}
 use Rattle.payload_util.specs.Bytes.{Bytes, flat}
 use Rattle.payload_util.specs.Loss.{upTo, kept, keep, times, without}
+use Rattle.payload_util.specs.Guards.{blocksFrom}
+use Rattle.payload_util.specs.Form.{loss, check, whole}
 use Rattle.payload_util.specs.declared.Guard.the-variants.{Pass}
 use Rattle.payload_util.proofs.Below.{below}
 use Rattle.payload_util.proofs.Guards.{multiple-pass}
 use Rattle.payload_util.proofs.Words.{low-byte, high-byte}
+use Rattle.payload_util.proofs.Parts.{by-head}
+use Rattle.payload_util.proofs.Each.{each-kept}
+use Rattle.payload_util.proofs.Losses.{length-keep}
 use Rattle.payload_util.proofs.Scheme.{Law}
-use Rattle.payload_util.proofs.Forms.{by-head, each-kept, listed-law}
-use Rattle.led.specs.LedColor.{colorByte, colorOf}
-use Rattle.led.specs.Led.{ledCode, checkLed, ledOf, ledRecords, ledBytes, ledForm, ledLimits, ledLoss}
+use Rattle.payload_util.proofs.Forms.{listed-law}
+use Rattle.led.specs.Led.{colorByte, colorOf, ledCode, ledOf, ledBytes, ledLimits, leds}
 use Rattle.led.specs.declared.LedRecord.{LedRecord}
 use Rattle.led.specs.declared.LedColor.{LedColor}
 use Rattle.led.specs.declared.LedColor.the-variants.{Black, Red, Green, Amber, Blue, Magenta, Cyan, White}
@@ -41,12 +45,13 @@ pub led-restored : (r : LedRecord) (t : List ℕ) → ledOf (ledBytes r ++ t) �
 led-restored r t = simp (mod-add-div, color-back)
 
 -- the records' bytes are the payload without what is lost
-pub led-kept : (p : List ℕ) → Bytes p → checkLed p ≡ Pass → flat ledBytes (ledRecords p) ≡ without ledLoss p
+pub led-kept : (p : List ℕ) → Bytes p → check leds p ≡ Pass → flat ledBytes (whole leds p) ≡ without (loss leds) p
 led-kept p b g =
     each-kept ledOf ledBytes 14 (λ n q. Unit) (λ n q. keep (times n (ledLimits 7)) q) refl
     (λ n q c h good. (by-head 14 q (keep (ledLimits 7 ++ times n (ledLimits 7))) h (simp (low-byte, high-byte, color-at)), tt))
     (length p / 14) p b (multiple-pass 14 ledCode p g .0) tt
 
-pub led-law : Law ledCode ledForm ledLoss
+pub led-law : Law leds
+unfolding blocksFrom
 led-law =
-    listed-law ledOf ledBytes 14 (λ r. refl) led-restored checkLed (omega arith) (λ p g. multiple-pass 14 ledCode p g .1) led-kept
+    listed-law (λ r. refl) led-restored (omega arith) (λ p g. multiple-pass 14 ledCode p g .1) led-kept (λ p g. simp length-keep g)

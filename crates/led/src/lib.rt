@@ -4,21 +4,19 @@ use lists::put_at;
 use payload_util::Guard;
 use payload_util::Refusal;
 use payload_util::Written;
+use payload_util::folded;
 use payload_util::high_byte;
 use payload_util::low_byte;
+use payload_util::put_payload;
+use payload_util::require_limit;
 use payload_util::require_positive_multiple_of;
 use payload_util::require_present;
 use payload_util::tail_from;
-use payload_util::u16_of;
-ghost use mathlib.Core.Path.{_≡_};
-ghost use mathlib.Core.List.{_++_};
-ghost use Prim.Native.Nat.{_*_, _/_, _≤_};
-ghost use lib.ListN.{length, drop};
-ghost use Rattle.payload_util.specs.Bytes.{flat};
-ghost use Rattle.payload_util.specs.Form.{normalised};
+use payload_util::u16_at;
+ghost use Rattle.payload_util.specs.Prelude.{_≡_, _*_, _/_, _≤_, _<_, length, take, inOrder, keep, times, limited, withinLimits, check, read, write, normalise};
 ghost use Rattle.lists.specs.List.{putAt};
-ghost use Rattle.led.specs.LedColor.{colorByte, colorOf};
-ghost use Rattle.led.specs.Led.{temporaryOf, permanentOf, ledOf, ledBytes, ledCode, checkLed, ledOutcome, readLed, ledRecords, stepLed, writeLeds, ledForm};
+ghost use Rattle.led.specs.Led.{colorByte, colorOf, highestColor};
+ghost use Rattle.led.specs.Led.{temporaryOf, permanentOf, ledOf, ledOutcome, ledBytes, ledCode, stepLed, ledLimits, ledLoss, leds};
 
 // Table 18.
 pub enum LedColor {
@@ -33,6 +31,8 @@ pub enum LedColor {
 }
 
 impl LedColor {
+    pub const HIGHEST: u8 = 7;
+
     // An unknown colour becomes Black.
     pub fn from_byte(b: u8) -> LedColor
         ensures { λ r. ⌜ r ≡ colorOf b ⌝ }
@@ -105,14 +105,7 @@ impl LedTemporary {
     {
         let on_color = LedColor::from_byte(buf[5]);
         let off_color = LedColor::from_byte(buf[6]);
-        LedTemporary::new(
-            buf[2],
-            buf[3],
-            buf[4],
-            on_color,
-            off_color,
-            u16_of(buf[7], buf[8]),
-        )
+        LedTemporary::new(buf[2], buf[3], buf[4], on_color, off_color, u16_at(buf, 7))
     }
 }
 
@@ -162,13 +155,13 @@ pub struct LedRecord {
     pub permanent: LedPermanent,
 }
 
-// What asking for record k gives.
+// What asking for a record by its index gives.
 pub enum LedRead {
     Read(LedRecord),
     Refused(Refusal),
 }
 
-// What stands at a place: a record, or fewer bytes than one has.
+// What stands at an offset: a record, or fewer bytes than one has.
 pub enum LedStep {
     Record(LedRecord),
     Finished,
@@ -223,7 +216,7 @@ impl LedRecord {
     }
 
     pub fn check(p: &[u8]) -> Guard
-        ensures { λ r. ⌜ r ≡ checkLed (now (p .entry)) ⌝ }
+        ensures { λ r. ⌜ r ≡ check leds (now (p .entry)) ⌝ }
     {
         require_positive_multiple_of(p, Self::WIRE_LEN, Self::CODE)
     }
@@ -235,43 +228,43 @@ impl LedRecord {
         p.len() / Self::WIRE_LEN
     }
 
-    // Record k; the whole list is checked first.
-    pub fn decode(p: &[u8], k: usize) -> LedRead
-        ensures { λ r. ⌜ ledOutcome r ≡ readLed (now (p .entry)) k ⌝ }
+    // The record of an index; the whole list is checked first.
+    pub fn decode(p: &[u8], index: usize) -> LedRead
+        ensures { λ r. ⌜ ledOutcome r ≡ read leds (now (p .entry)) index ⌝ }
     {
         let checked = Self::check(p);
         let Guard::Pass = checked else {
             return LedRead::Refused(checked.refusal());
         };
-        let present = require_present(k, Self::count(p), Self::CODE);
+        let present = require_present(index, Self::count(p), Self::CODE);
         let Guard::Pass = present else {
             return LedRead::Refused(present.refusal());
         };
-        LedRead::Read(Self::fields(tail_from(p, Self::WIRE_LEN * k)))
+        LedRead::Read(Self::fields(tail_from(p, Self::WIRE_LEN * index)))
     }
 
-    // What stands at a place, wherever the place is.
-    pub fn decode_at(p: &[u8], at: usize) -> LedStep
-        ensures { λ r. ⌜ r ≡ stepLed (now (p .entry)) at ⌝ }
+    // What stands at an offset, wherever that is.
+    pub fn decode_at(p: &[u8], offset: usize) -> LedStep
+        ensures { λ r. ⌜ r ≡ stepLed (now (p .entry)) offset ⌝ }
     {
-        let part = tail_from(p, at);
+        let part = tail_from(p, offset);
         if part.len() < Self::WIRE_LEN {
             return LedStep::Finished;
         }
         LedStep::Record(Self::fields(part))
     }
 
-    // The record's bytes from a place on, wherever the place is, or row 15.
-    pub fn encode_at(self, out: &mut [u8], at: usize) -> Written
-        ensures { λ r. ⌜ (r, now (out .exit)) ≡ putAt ledCode at (ledBytes self) (now (out .entry)) ⌝ }
+    // The record's bytes from an offset on, wherever that is, or row 15.
+    pub fn encode_at(self, out: &mut [u8], offset: usize) -> Written
+        ensures { λ r. ⌜ (r, now (out .exit)) ≡ putAt ledCode offset (ledBytes self) (now (out .entry)) ⌝ }
     {
         let bytes = self.to_bytes();
-        put_at(&bytes, Self::CODE, out, at)
+        put_at(&bytes, Self::CODE, out, offset)
     }
 
     // A lent list, record by record from the front of out: row 11 for an empty list, then row 15.
     pub fn encode(records: &[LedRecord], out: &mut [u8]) -> Written
-        ensures { λ r. ⌜ (r, now (out .exit)) ≡ writeLeds (now (records .entry)) (now (out .entry)) ⌝ }
+        ensures { λ r. ⌜ (r, now (out .exit)) ≡ write leds (now (records .entry)) (now (out .entry)) ⌝ }
     {
         let n = records.len();
         let answer = list_answer(n, Self::WIRE_LEN, Self::CODE, out.len());
@@ -286,34 +279,82 @@ impl LedRecord {
         answer
     }
 
-    // Every record of a payload, read and written again at its place.
-    fn rewrite(p: &[u8], out: &mut [u8])
-        requires { ⌜ length (now p) / 14 * 14 ≤ length (now out) ⌝ }
-        ensures { λ _. ⌜ now (out .exit) ≡ flat ledBytes (ledRecords (now (p .entry))) ++ drop (length (now (p .entry)) / 14 * 14) (now (out .entry)) ⌝ }
+    // The colours of a record, folded, into a copy of it. All are read before one is written: the compiler need not read again.
+    fn fold(from: &[u8], bytes: &mut [u8])
+        requires { ⌜ (14 ≤ length (now from)) × (14 ≤ length (now bytes)) × (now from ≡ now bytes) ⌝ }
+        ensures { λ _. ⌜ now (bytes .exit) ≡ keep (ledLimits highestColor) (now (bytes .entry)) ⌝ }
+    {
+        let temporary_on = folded(from[5], LedColor::HIGHEST);
+        let temporary_off = folded(from[6], LedColor::HIGHEST);
+        let permanent_on = folded(from[12], LedColor::HIGHEST);
+        let permanent_off = folded(from[13], LedColor::HIGHEST);
+        bytes[5] = temporary_on;
+        bytes[6] = temporary_off;
+        bytes[12] = permanent_on;
+        bytes[13] = permanent_off;
+    }
+
+    // The colours of all records of a payload that stands at the front of out.
+    fn fold_all(p: &[u8], out: &mut [u8])
+        requires { ⌜ take (length (now p)) (now out) ≡ now p ⌝ }
+        ensures { λ _. ⌜ now (out .exit) ≡ keep (times (length (now (p .entry)) / 14) (ledLimits highestColor)) (now (out .entry)) ⌝ }
     {
         let n = Self::count(p);
         let mut k: usize = 0;
         while k < n {
-            let at = k * Self::WIRE_LEN;
-            let record = Self::fields(tail_from(p, at));
-            record.encode_at(out, at);
+            let start = k * Self::WIRE_LEN;
+            let end = start + Self::WIRE_LEN;
+            Self::fold(&p[start..end], &mut out[start..end]);
             k += 1;
         }
     }
 
-    // Read the list and write it again: colours above 7 become Black.
+    // Read the list and write it again: colours above the highest become Black.
     pub fn normalise(p: &[u8], out: &mut [u8]) -> Written
-        ensures { λ r. ⌜ (r, now (out .exit)) ≡ normalised ledForm (now (p .entry)) (now (out .entry)) ⌝ }
+        ensures { λ r. ⌜ (r, now (out .exit)) ≡ normalise leds (now (p .entry)) (now (out .entry)) ⌝ }
     {
-        let checked = Self::check(p);
-        let Guard::Pass = checked else {
-            return Written::Refused(checked.refusal());
+        let written = put_payload(Self::check(p), p, Self::CODE, out);
+        let Written::Wrote(n) = written else {
+            return written;
         };
-        let answer = list_answer(Self::count(p), Self::WIRE_LEN, Self::CODE, out.len());
-        let Written::Wrote(_) = answer else {
-            return answer;
+        Self::fold_all(p, out);
+        Written::Wrote(n)
+    }
+
+    // A row for the first colour of a record, by offset, above the highest.
+    fn record_within(p: &[u8], index: usize, highest: u8, number: u8) -> Guard
+        requires { ⌜ index < length (now p) / 14 ⌝ }
+        ensures { λ r. ⌜ r ≡ inOrder (limited number ledCode (ledLoss highest) (now (p .entry))) (14 * index) 14 ⌝ }
+    {
+        let start = Self::WIRE_LEN * index;
+        let temporary_on = require_limit(p, start + 5, highest, number, Self::CODE);
+        let Guard::Pass = temporary_on else {
+            return temporary_on;
         };
-        Self::rewrite(p, out);
-        answer
+        let temporary_off = require_limit(p, start + 6, highest, number, Self::CODE);
+        let Guard::Pass = temporary_off else {
+            return temporary_off;
+        };
+        let permanent_on = require_limit(p, start + 12, highest, number, Self::CODE);
+        let Guard::Pass = permanent_on else {
+            return permanent_on;
+        };
+        require_limit(p, start + 13, highest, number, Self::CODE)
+    }
+
+    // The same of all records, in order.
+    pub fn within_limits(p: &[u8], highest: u8, number: u8) -> Guard
+        ensures { λ r. ⌜ r ≡ withinLimits number ledCode (ledLoss highest) (now (p .entry)) ⌝ }
+    {
+        let n = Self::count(p);
+        let mut k: usize = 0;
+        while k < n {
+            let checked = Self::record_within(p, k, highest, number);
+            let Guard::Pass = checked else {
+                return checked;
+            };
+            k += 1;
+        }
+        Guard::Pass
     }
 }

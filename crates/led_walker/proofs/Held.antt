@@ -18,10 +18,10 @@ payload = SliceRefOf (0 ∷ []) tt (plain (λ κs. u8)) (λ κs. tt)
 
 -- the fields' values, and their machine values
 abbrev fields : (α : NamedLft) → LedWalker → Values (T.the-type α .parts)
-fields α d = (d .payload, (d .at, tt))
+fields α d = (d .payload, (d .offset, tt))
 
 abbrev pub passed : LedWalker → List Val × (List Val × Unit {0})
-passed d = (sliceVal (d .payload .ptr) (length (d .payload .now)) ∷ [], (vint w64 (d .at) ∷ [], tt))
+passed d = (sliceVal (d .payload .ptr) (length (d .payload .now)) ∷ [], (vint w64 (d .offset) ∷ [], tt))
 
 -- what the struct owns
 abbrev pub Held : NamedLft → LedWalker → Fml
@@ -29,7 +29,7 @@ Held α d = T.the-row α .own d (T′.lowered d ∷ [])
 
 -- the same at another place
 abbrev pub moved : LedWalker → ℕ → LedWalker
-moved d n = record { payload = d .payload; at = n }
+moved d n = record { payload = d .payload; offset = n }
 
 module _ {M : Type 1} (𝓤 : URA M) (H : Heap 𝓤) (A : Atoms 𝓤) (W : Given 𝓤 H A) (α : NamedLft) (d : LedWalker) where
   twice : ent 𝓤 (sem 𝓤 H A (Held α d)) (sep 𝓤 (sem 𝓤 H A (Held α d)) (sem 𝓤 H A (Held α d)))
@@ -41,9 +41,9 @@ module _ {M : Type 1} (𝓤 : URA M) (H : Heap 𝓤) (A : Atoms 𝓤) (W : Given
       by ! (own-put 𝓤 H A W (T.the-type α) (T′.the-laws α) 1 (fields α d) n (T′.lowered d))
 
   -- what a callee asks of the slice and the place, P, is had beside what the struct owns
-  pub apart : (q : Share) → d .at < 2 ^ 64 → (P : SProp 𝓤)
+  pub apart : (q : Share) → d .offset < 2 ^ 64 → (P : SProp 𝓤)
       → ent 𝓤 (⋆ 𝓤 H A ((‵ (flft (α .lft) q) ⊛ ‵ ftrue)
-      ∷ ‵ (owns (ShrSlice (named 0) (α .lft) u8 ∷ usize ∷ []) (d .payload, (d .at, tt)) (passed d)) ∷ [])) P
+      ∷ ‵ (owns (ShrSlice (named 0) (α .lft) u8 ∷ usize ∷ []) (d .payload, (d .offset, tt)) (passed d)) ∷ [])) P
       → ent 𝓤 (⋆ 𝓤 H A ((‵ (flft (α .lft) q) ⊛ ‵ ftrue) ∷ ‵ (Held α d) ∷ [])) (sep 𝓤 P (sem 𝓤 H A (Held α d)))
   apart q ok P asked =
       qed W ((‵ (flft (α .lft) q) ⊛ ‵ ftrue) ∷ ‵ (Held α d) ∷ []) ∵
@@ -53,5 +53,5 @@ module _ {M : Type 1} (𝓤 : URA M) (H : Heap 𝓤) (A : Atoms 𝓤) (W : Given
       use1 W (‵ (ownAt (T.the-type α .parts) (T′.the-laws α) 0 (d .payload)) ⊛ ‵ (rest (T.the-type α .parts) (T′.the-laws α) 0 (fields α d)))
       (own-out 𝓤 H A W (T.the-type α .parts) (T′.the-laws α) 0 (fields α d)) $ split ! $
       -- [what payload owns; what at owns; what the struct owns; the token]
-      move ! (1 ∷ []) $ drop ! $ nothing ! $ owned ! usize (Is usize) (uint-makes 𝓤 H A W w64) (d .at) _ (refl, ok) $ fjoin ! $
+      move ! (1 ∷ []) $ drop ! $ nothing ! $ owned ! usize (Is usize) (uint-makes 𝓤 H A W w64) (d .offset) _ (refl, ok) $ fjoin ! $
       move ! (1 ∷ 0 ∷ []) $ fjoin ! $ move ! (2 ∷ 0 ∷ []) $ use2 W (raw P) asked $ frame ! $ done !)

@@ -1,5 +1,5 @@
 -- The walker's claim, over what the contracts of `start` and `next` say: an accepted payload's records in order, and nothing after them; nothing
--- of a refused payload; and from any hand-made place with fewer than 14 bytes left, nothing at any step.
+-- of a refused payload; and from any hand-made offset with fewer than 14 bytes left, nothing at any step.
 -- Assumes nothing.
 use mathlib.Core.Path.{_≡_, refl, sym, ap, _∙_}
 use mathlib.Core.List.{List, [], _∷_, _++_, map}
@@ -15,49 +15,50 @@ use Rattle.payload_util.specs.declared.Refusal.{Refusal}
 use Rattle.payload_util.specs.Outcome.{tailWhere}
 use Rattle.payload_util.specs.declared.Guard.{Guard}
 use Rattle.payload_util.specs.declared.Guard.the-variants.{Pass, Refused}
-use Rattle.led.specs.Led.{ledOf, ledRecords}
+use Rattle.payload_util.specs.Form.{whole}
+use Rattle.led.specs.Led.{ledOf, leds}
 use Rattle.led.specs.declared.LedStep.{LedStep}
 use Rattle.led.specs.declared.LedStep.the-variants.{Record, Finished}
 use Rattle.led_walker.specs.Walk.{startLed, walkerOf, walk}
 use Rattle.led_walker.specs.declared.LedWalker.{LedWalker}
 use Rattle.led_walker.specs.declared.LedStart.{LedStart}
 
--- with fewer than 14 bytes left from its place, whatever the place is, a walker is finished, at every step
-pub finished : (m : ℕ) (w : LedWalker) → length (drop (w .at) (now (w .payload))) < 14 → walk m w ≡ replicate m Finished
+-- with fewer than 14 bytes left from its offset, whatever that is, a walker is finished, at every step
+pub finished : (m : ℕ) (w : LedWalker) → length (drop (w .offset) (now (w .payload))) < 14 → walk m w ≡ replicate m Finished
 unfolding walk
 finished zero w h = refl
 finished (suc m) w h =
-    rw (lt-ltb (length (drop (w .at) (now (w .payload)))) 14 h) (ap (λ (l : List LedStep). Finished ∷ l) (finished m w h))
+    rw (lt-ltb (length (drop (w .offset) (now (w .payload)))) 14 h) (ap (λ (l : List LedStep). Finished ∷ l) (finished m w h))
 
--- n whole records are left from the place, and no more: they are handed out in order, and nothing after them
-walks : (n m : ℕ) (s : RefT (List ℕ)) (at : ℕ) → 14 * n ≤ length (drop at (now s)) → length (drop at (now s)) < 14 * n + 14
-    → walk (n + m) (record { payload = s; at = at }) ≡ map Record (each ledOf 14 n (drop at (now s))) ++ replicate m Finished
+-- n whole records are left from the offset, and no more: they are handed out in order, and nothing after them
+walks : (n m : ℕ) (s : RefT (List ℕ)) (offset : ℕ) → 14 * n ≤ length (drop offset (now s)) → length (drop offset (now s)) < 14 * n + 14
+    → walk (n + m) (record { payload = s; offset = offset }) ≡ map Record (each ledOf 14 n (drop offset (now s))) ++ replicate m Finished
 unfolding walk
-walks zero m s at h k = rw zero-add (finished m (record { payload = s; at = at }) (omega arith))
-walks (suc n) m s at h k =
-    let e : length (drop (at + 14) (now s)) + 14 ≡ length (drop at (now s)) = simp length-drop (omega (arith, length-drop at (now s))) in
-    rw (suc-add, le-ltb (length (drop at (now s))) 14 (omega arith))
-    (ap (λ (l : List LedStep). Record (ledOf (drop at (now s))) ∷ l)
-    (walks n m s (at + 14) (omega arith) (omega arith)
-    ∙ ap (λ (l : List ℕ). map Record (each ledOf 14 n l) ++ replicate m Finished) (sym (drop-drop 14 at (now s)))))
+walks zero m s offset h k = rw zero-add (finished m (record { payload = s; offset = offset }) (omega arith))
+walks (suc n) m s offset h k =
+    let e : length (drop (offset + 14) (now s)) + 14 ≡ length (drop offset (now s)) = simp length-drop (omega (arith, length-drop offset (now s))) in
+    rw (suc-add, le-ltb (length (drop offset (now s))) 14 (omega arith))
+    (ap (λ (l : List LedStep). Record (ledOf (drop offset (now s))) ∷ l)
+    (walks n m s (offset + 14) (omega arith) (omega arith)
+    ∙ ap (λ (l : List ℕ). map Record (each ledOf 14 n l) ++ replicate m Finished) (sym (drop-drop 14 offset (now s)))))
 
 -- what starting gave for a payload
 abbrev pub Started : List ℕ → LedStart → Type 0
-Started p s = (now (s .payload), s .at, s .checked) ≡ startLed p
+Started p s = (now (s .payload), s .offset, s .checked) ≡ startLed p
 
 module _ (p : List ℕ) (s : LedStart) (e : Started p s) where
   -- the walker holds what is left of the payload by its check, from the start
-  holds : {g : Guard} → s .checked ≡ g → drop (s .at) (now (s .payload)) ≡ tailWhere g p
+  holds : {g : Guard} → s .checked ≡ g → drop (s .offset) (now (s .payload)) ≡ tailWhere g p
   holds c =
-      let at : s .at ≡ 0 = ap (λ (x : List ℕ × ℕ × Guard). x .1) e in
+      let at : s .offset ≡ 0 = ap (λ (x : List ℕ × ℕ × Guard). x .1) e in
       let is = sym (ap (λ (x : List ℕ × ℕ × Guard). x .2) e) ∙ c in
       rw at (ap (λ (x : List ℕ × ℕ × Guard). x .0) e ∙ ap (λ (h : Guard). tailWhere h p) is)
 
   -- accepted: length / 14 steps hand out its records, in order, and every later step nothing
-  pub accepted : s .checked ≡ Pass → (m : ℕ) → walk (length p / 14 + m) (walkerOf s) ≡ map Record (ledRecords p) ++ replicate m Finished
+  pub accepted : s .checked ≡ Pass → (m : ℕ) → walk (length p / 14 + m) (walkerOf s) ≡ map Record (whole leds p) ++ replicate m Finished
   accepted c m =
       let h = holds c in
-      walks (length p / 14) m (s .payload) (s .at) (rw h (omega arith)) (rw h (omega arith))
+      walks (length p / 14) m (s .payload) (s .offset) (rw h (omega arith)) (rw h (omega arith))
       ∙ ap (λ (l : List ℕ). map Record (each ledOf 14 (length p / 14) l) ++ replicate m Finished) h
 
   -- refused: nothing at any step

@@ -1,44 +1,36 @@
 -- Walking an LED payload record by record: what starting gives, what a step does, and what n steps hand out.
-use mathlib.Core.Bool.{cond}
-use mathlib.Core.List.{List, [], _∷_}
-use Prim.Native.Nat.{ℕ, zero, suc, _+_}
-use lib.Dec.{ltb}
-use lib.ListN.{length, drop}
 use denote.Ref.{now}
-use Rattle.payload_util.specs.Outcome.{tailWhere}
+use Rattle.payload_util.specs.Prelude.{List, [], _∷_, ℕ, zero, suc, _+_, cond, ltb, length, drop, tailWhere, check}
 use Rattle.payload_util.specs.declared.Guard.{Guard}
-use Rattle.led.specs.Led.{checkLed, stepLed}
+use Rattle.led.specs.Led.{leds, stepLed}
 use Rattle.led.specs.declared.LedStep.{LedStep}
-use Rattle.led_walker.specs.declared.LedWalker.{LedWalker}
-use Rattle.led_walker.specs.declared.LedStart.{LedStart}
-use Rattle.led_walker.specs.declared.LedStarted.{LedStarted}
-use Rattle.led_walker.specs.declared.LedMoved.{LedMoved}
+use Rattle.led_walker.specs.declared.{LedWalker.LedWalker, LedStart.LedStart, LedStarted.LedStarted, LedMoved.LedMoved}
 
--- the payload where the LED reader accepts it, else no bytes; place 0; the reader's check
+-- the payload where the LED reader accepts it, else no bytes; offset 0; the reader's check
 abbrev pub startLed : List ℕ → List ℕ × ℕ × Guard
-startLed p = (tailWhere (checkLed p) p, 0, checkLed p)
+startLed p = (tailWhere (check leds p) p, 0, check leds p)
 
 -- the same in plain values
 abbrev pub startedLed : List ℕ → LedStarted
-startedLed p = record { len = length (tailWhere (checkLed p) p); at = 0; checked = checkLed p }
+startedLed p = record { len = length (tailWhere (check leds p) p); offset = 0; checked = check leds p }
 
--- the place after a step: past the record where 14 bytes are left, else the same
-abbrev pub placeAfter : List ℕ → ℕ → ℕ
-placeAfter p at = cond (ltb (length (drop at p)) 14) at (at + 14)
+-- the offset after a step: past the record where 14 bytes are left, else the same
+abbrev pub offsetAfter : List ℕ → ℕ → ℕ
+offsetAfter p offset = cond (ltb (length (drop offset p)) 14) offset (offset + 14)
 
--- a step, and the place after it
+-- a step, and the offset after it
 abbrev pub movedLed : List ℕ → ℕ → LedMoved
-movedLed p at = record { step = stepLed p at; at = placeAfter p at }
+movedLed p offset = record { step = stepLed p offset; offset = offsetAfter p offset }
 
 -- a walker's step, and the walker after it
 abbrev pub stepped : LedWalker → LedStep × LedWalker
 stepped w =
     let p = now (w .payload) in
-    (stepLed p (w .at), record { payload = w .payload; at = placeAfter p (w .at) })
+    (stepLed p (w .offset), record { payload = w .payload; offset = offsetAfter p (w .offset) })
 
 -- the walker that starting gives
 abbrev pub walkerOf : LedStart → LedWalker
-walkerOf s = record { payload = s .payload; at = s .at }
+walkerOf s = record { payload = s .payload; offset = s .offset }
 
 -- what n steps hand out, in order
 unfoldable pub walk : ℕ → LedWalker → List LedStep

@@ -1,4 +1,4 @@
--- The writer of a lent list, over any kind of record (`Kind`): a walk of its MIR by hand, with one loop, taken to its contract. The code is
+-- The writer of a lent list, over any kind of record (`RecordKind`): a walk of its MIR by hand, with one loop, taken to its contract. The code is
 --     let n = records.len();
 --     let answer = list_answer(n, SIZE, CODE, out.len());
 --     let Written::Wrote(_) = answer else { return answer; };
@@ -57,7 +57,7 @@ use denote.Enum.Laws as EL
 use denote.Struct.Laws as LL
 use Rattle.payload_util.specs.Bytes.{flat}
 use Rattle.payload_util.specs.Guards.{notEmpty}
-use Rattle.payload_util.specs.Writing.{Left, write}
+use Rattle.payload_util.specs.Writing.{Effect, putChecked}
 use Rattle.payload_util.specs.declared.Written.{Written}
 use Rattle.payload_util.specs.declared.Written.the-variants.{Wrote, Refused}
 use Rattle.payload_util.proofs.Written as Wr
@@ -80,7 +80,7 @@ abbrev outTy : Ty
 outTy = sliceTy (tyRef (named 1) mut (tyInt w8))
 
 -- a kind of record: its type, its bytes, and how many they are; the command's code; and some record, which `getD` gives past a list's end
-pub record Kind : Type 2 where
+pub record RecordKind : Type 2 where
   pub type : Declared
   pub laws : LL.Laws type
   pub copies : LL.Copyables (type .parts)
@@ -95,7 +95,7 @@ pub record Kind : Type 2 where
 
 -- ---- the code, at a kind and PUT's key
 
-module _ (K : Kind) (put : Name) where
+module _ (K : RecordKind) (put : Name) where
   abbrev R : RattleType
   R = row (K .type)
 
@@ -152,7 +152,7 @@ said r = EL.val Wr.the-type Wr′.the-laws r
 
 -- ---- the contracts: of PUT, `fn put(self, out: &mut [u8], at: usize) -> Written`, and of the writer
 
-module _ (K : Kind) where
+module _ (K : RecordKind) where
   abbrev put-signature : Signature
   put-signature = record {
     lifetimes = 1;
@@ -168,7 +168,7 @@ module _ (K : Kind) where
   put-clauses 𝓤 κs a = record {
     ghost = Unit {0};
     requires = λ _. emp 𝓤;
-    ensures = λ _ r e. fact 𝓤 (_≡_ {A = Left} (r, now (e .1 .0)) (putAt (K .code) (a .1 .1 .0) (K .bytes (a .0)) (now (a .1 .0))));
+    ensures = λ _ r e. fact 𝓤 (_≡_ {A = Effect} (r, now (e .1 .0)) (putAt (K .code) (a .1 .1 .0) (K .bytes (a .0)) (now (a .1 .0))));
   }
 
   abbrev records : Slot 2
@@ -186,14 +186,14 @@ module _ (K : Kind) where
   ended = record { signature = signature; kept = (yes, (yes, tt)) }
 
   -- what a writer of the kind leaves: answer and buffer
-  abbrev pub writes : List (K .type .D) → List ℕ → Left
-  writes rs out = write (notEmpty (K .code) rs) (K .code) (flat (K .bytes) rs) out
+  abbrev pub writes : List (K .type .D) → List ℕ → Effect
+  writes rs out = putChecked (notEmpty (K .code) rs) (K .code) (flat (K .bytes) rs) out
 
   abbrev pub clauses : {M : Type 1} (𝓤 : URA M) → Clauses 𝓤 ended
   clauses 𝓤 κs a = record {
     ghost = Unit {0};
     requires = λ _. emp 𝓤;
-    ensures = λ _ r e. fact 𝓤 (_≡_ {A = Left} (r, now (e .1 .0)) (writes (now (a .0)) (now (a .1 .0))));
+    ensures = λ _ r e. fact 𝓤 (_≡_ {A = Effect} (r, now (e .1 .0)) (writes (now (a .0)) (now (a .1 .0))));
   }
 
   -- nothing is had of the list at exit, and the buffer is still owned
@@ -210,7 +210,7 @@ module _ (K : Kind) where
 abbrev pub Answer : {M : Type 1} (𝓤 : URA M) (H : Heap 𝓤) (A : Atoms 𝓤) (mem : Memory → SProp 𝓤) (run : Routine → Fun 𝓤) → Contract 𝓤
 Answer 𝓤 H A mem run = tripleOf 𝓤 H A list-answer.signature (list-answer.spec 𝓤 H A mem run)
 
-module _ {M : Type 1} (𝓤 : URA M) (H : Heap 𝓤) (A : Atoms 𝓤) (W : Given 𝓤 H A) (at-mem : Memory → SProp 𝓤) (run : Routine → Fun 𝓤) (K : Kind)
+module _ {M : Type 1} (𝓤 : URA M) (H : Heap 𝓤) (A : Atoms 𝓤) (W : Given 𝓤 H A) (at-mem : Memory → SProp 𝓤) (run : Routine → Fun 𝓤) (K : RecordKind)
     (put : Name) (𝓣 : Tables 𝓤 H) (known-put : Triple 𝓤 (𝓣 .C put) (Put K 𝓤 H A))
     (known-answer : Triple 𝓤 (𝓣 .C #list-answer) (Answer 𝓤 H A at-mem run))
     (κ κ′ : Lft) (q q′ : Share) (b o : ℕ) (γ : GName) (rs : List (K .type .D)) (b′ o′ : ℕ) (γ′ : GName) (os : List ℕ)
@@ -302,7 +302,7 @@ module _ {M : Type 1} (𝓤 : URA M) (H : Heap 𝓤) (A : Atoms 𝓤) (W : Given
   Put-gave k ν δ w y = sep 𝓤 (sem 𝓤 H A (Wr.the-row .own y (w ∷ []))) (sep 𝓤 (A .lft (ν ∷ []) fullShare) (sem 𝓤 H A (finally u8 δ (at (suc k)))))
 
   abbrev Wrote-at : ℕ → Written → List ℕ → Type 0
-  Wrote-at k y zs = _≡_ {A = Left} (y, zs) (putAt (K .code) (k * size) (K .bytes (rec k)) (at k))
+  Wrote-at k y zs = _≡_ {A = Effect} (y, zs) (putAt (K .code) (k * size) (K .bytes (rec k)) (at k))
 
   put-gives : n * size ≤ length os → (k : ℕ) → k < n → (ν : ℕ) (δ : GName) (w : Val)
       → ent 𝓤 (Put K 𝓤 H A .post (to-put k ν δ) w) (H .⇛ (ex 𝓤 (Put-gave k ν δ w)))
@@ -318,7 +318,7 @@ module _ {M : Type 1} (𝓤 : URA M) (H : Heap 𝓤) (A : Atoms 𝓤) (W : Given
       move ! (3 ∷ []) $ split ! $ split ! $
       -- [the token; true; the answer; the last list; …]
       rewrite ! 3 (λ (z : List ℕ). ‵ (finally u8 δ z))
-      (ap (λ (x : Left). x .1) e ∙ St.state-step (K .bytes) size (K .fixed) (K .code) rs os room (K .none) k less) refl $
+      (ap (λ (x : Effect). x .1) e ∙ St.state-step (K .bytes) size (K .fixed) (K .code) rs os room (K .none) k less) refl $
       at-once ! $ show ! (Put-gave k ν δ w) y $ keep ! (2 ∷ 0 ∷ 3 ∷ []) $ frame ! $ frame ! $ done !)))
 
   -- ---- `list_answer`
@@ -601,7 +601,7 @@ module _ {M : Type 1} (𝓤 : URA M) (H : Heap 𝓤) (A : Atoms 𝓤) (W : Given
       (EL.lawful Wr.the-type Wr′.the-laws 𝓤 H A W tt .typed r (said r ∷ []) (subst (Is Wr.the-row r) told is) .0) r refl
       (St.facts (K .bytes) size (K .fixed) (K .code) rs os))))))))))))))))))
 
-module _ {M : Type 1} (𝓤 : URA M) (H : Heap 𝓤) (A : Atoms 𝓤) (W : Given 𝓤 H A) (mem : Memory → SProp 𝓤) (run : Routine → Fun 𝓤) (K : Kind)
+module _ {M : Type 1} (𝓤 : URA M) (H : Heap 𝓤) (A : Atoms 𝓤) (W : Given 𝓤 H A) (mem : Memory → SProp 𝓤) (run : Routine → Fun 𝓤) (K : RecordKind)
     (put : Name) (𝓣 : Tables 𝓤 H) (known-put : Triple 𝓤 (𝓣 .C put) (Put K 𝓤 H A))
     (known-answer : Triple 𝓤 (𝓣 .C #list-answer) (Answer 𝓤 H A mem run)) where
   abbrev Runs : List Val → (Val → SProp 𝓤) → SProp 𝓤
@@ -622,7 +622,7 @@ module _ {M : Type 1} (𝓤 : URA M) (H : Heap 𝓤) (A : Atoms 𝓤) (W : Given
       (WpFn-mono 𝓤 H (W .laws) 𝓣 (function K put)) walks
 
 -- a kind's writer, where its code's calls mean γ
-module _ {M : Type 1} (𝓤 : URA M) (H : Heap 𝓤) (𝓜 : Model 𝓤 H) (𝓖 : GhostRules 𝓤 H) (𝓡 : Running 𝓤 H 𝓜) (γ : Meaning) (K : Kind) where
+module _ {M : Type 1} (𝓤 : URA M) (H : Heap 𝓤) (𝓜 : Model 𝓤 H) (𝓖 : GhostRules 𝓤 H) (𝓡 : Running 𝓤 H 𝓜) (γ : Meaning) (K : RecordKind) where
   pub lent-spec : (key put : Name) (r : Routine) → γ put ≡ r → Triple 𝓤 (𝓡 .run r) (Put K 𝓤 H (𝓖 .A)) → γ #list-answer ≡ answer-def.routine
       → Closed 𝓤 H (tables 𝓤 H 𝓜 𝓡 γ .C) (tables 𝓤 H 𝓜 𝓡 γ .Λ) key (function K put)
       → Triple 𝓤 (tables 𝓤 H 𝓜 𝓡 γ .C key) (tripleOf 𝓤 H (𝓖 .A) (signature K) (spec K 𝓤 H (𝓖 .A)))

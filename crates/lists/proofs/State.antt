@@ -12,7 +12,7 @@ use lib.Seq.{take-suc, take-at, take-length, drop-append-add, drop-drop, length-
 use Rattle.payload_util.specs.Bytes.{flat}
 use Rattle.payload_util.specs.Refusals.{_also_}
 use Rattle.payload_util.specs.Guards.{room, notEmpty}
-use Rattle.payload_util.specs.Writing.{Left, left, put, write}
+use Rattle.payload_util.specs.Writing.{Effect, effect, put, putChecked}
 use Rattle.payload_util.specs.declared.Guard.{Guard}
 use Rattle.payload_util.specs.declared.Guard.the-variants.{Pass, Refused as Stopped}
 use Rattle.payload_util.specs.declared.Refusal.{Refusal}
@@ -20,7 +20,7 @@ use Rattle.payload_util.specs.declared.Written.{Written}
 use Rattle.payload_util.specs.declared.Written.the-variants.{Wrote, Refused}
 use Rattle.payload_util.proofs.Guards.{room-pass, pass-room, also-pass}
 use Rattle.payload_util.proofs.Parts.{part-to-end}
-use Rattle.lists.specs.List.{answer, listAnswer, leftAt, putAt}
+use Rattle.lists.specs.List.{answer, listAnswer, effectAt, putAt}
 
 -- bytes that were put at the front of the part that starts at a place; e is that part afterwards
 module _ (code at : ℕ) (bytes out e : List ℕ) (r : Written) where
@@ -30,9 +30,9 @@ module _ (code at : ℕ) (bytes out e : List ℕ) (r : Written) where
   placed fits h =
       let l = room-pass code (at + length bytes) (length out) fits in
       let end : length out ≤ at + (length out - at) = omega arith in
-      let w : _≡_ {A = Left} (r, e) (Wrote (length bytes), bytes ++ drop (length bytes) (drop at out)) =
+      let w : _≡_ {A = Effect} (r, e) (Wrote (length bytes), bytes ++ drop (length bytes) (drop at out)) =
       h ∙ simp (append-nil, part-to-end, pass-room code (length bytes) (length (drop at out)) (simp length-drop (omega arith))) in
-      ap (λ (x : Left). (x .0, take at out ++ (x .1 ++ drop (length out - at) (drop at out)))) w
+      ap (λ (x : Effect). (x .0, take at out ++ (x .1 ++ drop (length out - at) (drop at out)))) w
       ∙ simp (fits, drop-drop, drop-of-length-le out end, append-nil)
 
 -- ---- records of one size
@@ -62,7 +62,7 @@ module _ {X : Type 0} (bytes : X → List ℕ) (size : ℕ) (fixed : (x : X) →
 
     -- the buffer after all, or as it was where the writer refuses
     abbrev pub end : List ℕ
-    end = write (notEmpty code xs) code (flat bytes xs) o .1
+    end = putChecked (notEmpty code xs) code (flat bytes xs) o .1
 
     pub state-start : state 0 ≡ o
     state-start = ap (λ (n : ℕ). drop n o) (zero-mul size)
@@ -114,20 +114,20 @@ module _ {X : Type 0} (bytes : X → List ℕ) (size : ℕ) (fixed : (x : X) →
         go Pass e =
             let fits = room-pass code (length (flat bytes xs)) (length o) (also-pass (notEmpty code xs) _ e .1) in
             goes-on (omega (arith, flat-length xs))
-            (rw (take-length xs, ← flat-length xs) (ap (λ (h : Guard). left h (flat bytes xs) o .1) (sym e)))
-        go (Stopped r) e = refuses (ap (λ (h : Guard). left h (flat bytes xs) o .1) (sym e))
+            (rw (take-length xs, ← flat-length xs) (ap (λ (h : Guard). effect h (flat bytes xs) o .1) (sym e)))
+        go (Stopped r) e = refuses (ap (λ (h : Guard). effect h (flat bytes xs) o .1) (sym e))
 
-    pub answers : _≡_ {A = Left} (listAnswer (length xs) size code (length o), end) (write (notEmpty code xs) code (flat bytes xs) o)
+    pub answers : _≡_ {A = Effect} (listAnswer (length xs) size code (length o), end) (putChecked (notEmpty code xs) code (flat bytes xs) o)
     answers = rw (answer-is code xs o) (go guard)
       where
-        go : (g : Guard) → _≡_ {A = Left} (answer g (length xs * size), left g (flat bytes xs) o .1) (left g (flat bytes xs) o)
+        go : (g : Guard) → _≡_ {A = Effect} (answer g (length xs * size), effect g (flat bytes xs) o .1) (effect g (flat bytes xs) o)
         go Pass = rw (flat-length xs)
         go (Stopped r) = refl
 
     pub end-length : length end ≡ length o
     end-length = go guard refl
       where
-        go : (g : Guard) → guard ≡ g → length (left g (flat bytes xs) o .1) ≡ length o
+        go : (g : Guard) → guard ≡ g → length (effect g (flat bytes xs) o .1) ≡ length o
         go Pass e =
             let fits = room-pass code (length (flat bytes xs)) (length o) (also-pass (notEmpty code xs) _ e .1) in
             simp (length-append, length-drop) (omega arith)
@@ -146,12 +146,12 @@ module _ {X : Type 0} (bytes : X → List ℕ) (size : ℕ) (fixed : (x : X) →
       went-on (Refused f) (refuses h) p = let z : _≡_ {A = ℕ} 0 1 = cc in absurd (omega arith)
       went-on (Wrote n) (goes-on room h) p = (room, h)
 
-      pub refused-is : {e : Refusal} → a ≡ Refused e → _≡_ {A = Left} (a, o) (write (notEmpty code xs) code (flat bytes xs) o)
-      refused-is p = ap₂ {C = Left} (λ y l. (y, l)) q (refused-end a known p) ∙ answers
+      pub refused-is : {e : Refusal} → a ≡ Refused e → _≡_ {A = Effect} (a, o) (putChecked (notEmpty code xs) code (flat bytes xs) o)
+      refused-is p = ap₂ {C = Effect} (λ y l. (y, l)) q (refused-end a known p) ∙ answers
 
       pub records-fit : {n : ℕ} → a ≡ Wrote n → length xs * size ≤ length o
       records-fit p = went-on a known p .0
 
       pub written-is : {n : ℕ} → a ≡ Wrote n
-          → _≡_ {A = Left} (a, flat bytes xs ++ drop (length xs * size) o) (write (notEmpty code xs) code (flat bytes xs) o)
-      written-is p = ap₂ {C = Left} (λ y l. (y, l)) q (rw (take-length xs) at (went-on a known p .1)) ∙ answers
+          → _≡_ {A = Effect} (a, flat bytes xs ++ drop (length xs * size) o) (putChecked (notEmpty code xs) code (flat bytes xs) o)
+      written-is p = ap₂ {C = Effect} (λ y l. (y, l)) q (rw (take-length xs) at (went-on a known p .1)) ∙ answers

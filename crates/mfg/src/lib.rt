@@ -3,14 +3,11 @@ use payload_util::Guard;
 use payload_util::Refusal;
 use payload_util::Written;
 use payload_util::put_bytes;
-use payload_util::put_checked;
+use payload_util::put_payload;
 use payload_util::require_at_least;
 use payload_util::tail_where;
-ghost use mathlib.Core.Path.{_≡_};
-ghost use Prim.Native.Nat.{_≤_};
-ghost use lib.ListN.{length};
-ghost use Rattle.payload_util.specs.Form.{normalised};
-ghost use Rattle.mfg.specs.Mfg.{checkMfg, mfgOf, mfgOutcome, readMfg, mfgTail, writeMfg, mfgForm};
+ghost use Rattle.payload_util.specs.Prelude.{_≡_, _≤_, length, check, fields, read, tail, write, normalise};
+ghost use Rattle.mfg.specs.Mfg.{mfgOutcome, mfg};
 
 // The fixed fields: the vendor's OUI. The vendor's data is the tail.
 pub struct Mfg {
@@ -30,13 +27,13 @@ impl Mfg {
     pub const WIRE_LEN: usize = 3;
 
     pub fn check(p: &[u8]) -> Guard
-        ensures { λ r. ⌜ r ≡ checkMfg (now (p .entry)) ⌝ }
+        ensures { λ r. ⌜ r ≡ check mfg (now (p .entry)) ⌝ }
     {
         require_at_least(p, Self::WIRE_LEN, Self::CODE)
     }
 
     pub fn decode(p: &[u8]) -> MfgRead
-        ensures { λ r. ⌜ mfgOutcome r ≡ readMfg (now (p .entry)) ⌝ }
+        ensures { λ r. ⌜ mfgOutcome r ≡ read mfg (now (p .entry)) ⌝ }
     {
         let checked = Self::check(p);
         let Guard::Pass = checked else {
@@ -47,7 +44,7 @@ impl Mfg {
 
     fn fields(p: &[u8]) -> Mfg
         requires { ⌜ 3 ≤ length (now p) ⌝ }
-        ensures { λ r. ⌜ r ≡ mfgOf (now (p .entry)) ⌝ }
+        ensures { λ r. ⌜ r ≡ fields mfg (now (p .entry)) ⌝ }
     {
         Mfg {
             oui_0: p[0],
@@ -58,13 +55,13 @@ impl Mfg {
 
     // The vendor's data; nothing where reading refuses.
     pub fn payload(p: &[u8]) -> &[u8]
-        ensures { λ r. ⌜ now r ≡ mfgTail (now (p .entry)) ⌝ }
+        ensures { λ r. ⌜ now r ≡ tail mfg (now (p .entry)) ⌝ }
     {
         tail_where(Self::check(p), p, Self::WIRE_LEN)
     }
 
     pub fn encode(self, payload: &[u8], out: &mut [u8]) -> Written
-        ensures { λ r. ⌜ (r, now (out .exit)) ≡ writeMfg self (now (payload .entry)) (now (out .entry)) ⌝ }
+        ensures { λ r. ⌜ (r, now (out .exit)) ≡ write mfg self (now (payload .entry)) (now (out .entry)) ⌝ }
     {
         put_bytes(
             &[self.oui_0, self.oui_1, self.oui_2],
@@ -76,8 +73,8 @@ impl Mfg {
 
     // Reading loses nothing: an accepted payload is written as it came.
     pub fn normalise(p: &[u8], out: &mut [u8]) -> Written
-        ensures { λ r. ⌜ (r, now (out .exit)) ≡ normalised mfgForm (now (p .entry)) (now (out .entry)) ⌝ }
+        ensures { λ r. ⌜ (r, now (out .exit)) ≡ normalise mfg (now (p .entry)) (now (out .entry)) ⌝ }
     {
-        put_checked(Self::check(p), p, &[], Self::CODE, out)
+        put_payload(Self::check(p), p, Self::CODE, out)
     }
 }

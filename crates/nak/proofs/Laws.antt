@@ -5,22 +5,25 @@ use mathlib.Core.Bool.{Bool, true, false, cond}
 use mathlib.Core.List.{List, [], _∷_}
 use Prim.Native.Nat.{ℕ, _≤_}
 use native.Mathlib.Omega.{arith}
+use borrow.Author.Tests.{le-leb}
 use lib.ListN.{length, take, drop}
 use lib.Dec.{eqb}
 use Rattle.payload_util.specs.Refusals.{row}
 use Rattle.payload_util.specs.Bytes.{byteAt}
 use Rattle.payload_util.specs.Guards.{atLeast}
 use Rattle.payload_util.specs.Loss.{without}
-use Rattle.payload_util.specs.Outcome.{gives, outcome, guardOf}
+use Rattle.payload_util.specs.Outcome.{Outcome, gives, refuses, outcome, guardOf}
+use Rattle.payload_util.specs.Form.{loss, check}
 use Rattle.payload_util.specs.declared.Guard.{Guard}
 use Rattle.payload_util.specs.declared.Guard.the-variants.{Pass, Refused}
 use Rattle.payload_util.proofs.Guards.{also-pass, least-pass}
 use Rattle.payload_util.proofs.Table.{exact, exact-value}
+use Rattle.payload_util.proofs.Parts.{by-head}
 use Rattle.payload_util.proofs.Scheme.{Law}
-use Rattle.payload_util.proofs.Forms.{tailed-law, by-head}
+use Rattle.payload_util.proofs.Forms.{tailed-law}
 use Rattle.nak.specs.declared.NakErrorCode.{NakErrorCode}
 use Rattle.nak.specs.declared.NakErrorCode.the-variants.{NoError, BadCrcOrChecksum, CommandLengthError, UnknownCommandCode, UnexpectedSequenceNumber, SecurityBlockTypeNotSupported, EncryptedCommunicationRequired, BioTypeNotSupported, BioFormatNotSupported, UnableToProcessCommandRecord}
-use Rattle.nak.specs.Nak.{nakCode, nakErrorByte, nakErrors, readNakError, completionError, checkNak, nakOf, completionCodes, nakBytes, nakForm, nakLoss}
+use Rattle.nak.specs.Nak.{nakCode, nakErrorByte, nakErrors, readNakError, completionError, completionCodes, nak}
 
 -- a code's byte reads as the code, and a byte that reads as a code is that code's byte
 pub nak-error-back : (c : NakErrorCode) → readNakError (nakErrorByte c) ≡ gives c
@@ -44,7 +47,7 @@ unfolding readNakError
 nak-error-exact b c = exact nakErrorByte (row 10 nakCode 0 0) nakErrors b c
 
 -- what reading keeps: nothing of an empty payload; after its first byte the completion codes
-pub kept-none : (p : List ℕ) → length p ≡ 0 → p ≡ without nakLoss p
+pub kept-none : (p : List ℕ) → length p ≡ 0 → p ≡ without (loss nak) p
 kept-none [] h = refl
 kept-none (b ∷ p) h = absurd (omega arith)
 
@@ -53,7 +56,7 @@ kept-rest true p = refl
 kept-rest false [] = refl
 kept-rest false (b ∷ p) = refl
 
-pub kept-codes : (p : List ℕ) → drop 1 (without nakLoss p) ≡ completionCodes p
+pub kept-codes : (p : List ℕ) → drop 1 (without (loss nak) p) ≡ completionCodes p
 kept-codes p = kept-rest (eqb (byteAt p 0) completionError) p
 
 -- the error's byte and the completion codes are what is kept
@@ -61,18 +64,19 @@ error-and-codes : (t : Bool) (p : List ℕ) → 1 ≤ length p → byteAt p 0 �
 error-and-codes true p h = by-head 1 p (λ q. q) h refl
 error-and-codes false p h = by-head 1 p (take 1) h refl
 
--- a reader's refusal is that of its checks
-pub guard-outcome : {A : Type 0} (g : Guard) (a : A) → guardOf (outcome g a) ≡ g
-guard-outcome Pass a = refl
-guard-outcome (Refused e) a = refl
+nak-steady : (t : Bool) (p : List ℕ) → check nak p ≡ Pass → check nak (cond t p (take 1 p)) ≡ Pass
+unfolding atLeast
+nak-steady true p g = g
+nak-steady false [] g = g
+nak-steady false (b ∷ p) g = simp (le-leb 1 (length (b ∷ p)) (omega arith)) at g
 
-pub nak-law : Law nakCode nakForm nakLoss
-unfolding checkNak readNakError
+pub nak-law : Law nak
+unfolding readNakError
 nak-law =
-    tailed-law checkNak nakOf completionCodes (λ n t. Pass) nakCode nakBytes 1
+    tailed-law 1
     (λ p b g.
     let (least, known) = also-pass (atLeast 1 nakCode p) _ g in
     rw (exact-value nakErrorByte (row 10 nakCode 0 0) nakErrors (byteAt p 0) NoError known)
     (error-and-codes (eqb (byteAt p 0) completionError) p (least-pass 1 nakCode p least)))
     (λ p b g. refl)
-    (λ n t w. simp nak-error-back) (λ n t. refl)
+    (λ n t w. simp nak-error-back) (λ n t. refl) (λ p g. nak-steady (eqb (byteAt p 0) completionError) p g)

@@ -3,13 +3,11 @@ use payload_util::Guard;
 use payload_util::Refusal;
 use payload_util::Written;
 use payload_util::put_bytes;
-use payload_util::put_checked;
+use payload_util::put_payload;
 use payload_util::require_at_least;
 use payload_util::tail_where;
-ghost use mathlib.Core.Path.{_≡_};
-ghost use Rattle.payload_util.specs.Form.{normalised};
-ghost use Rattle.payload_util.specs.Loss.{without};
-ghost use Rattle.nak.specs.Nak.{nakErrorByte, nakErrorOutcome, readNakError, checkNak, nakOutcome, readNak, nakTail, writeNak, nakForm, nakLoss};
+ghost use Rattle.payload_util.specs.Prelude.{_≡_, without, loss, check, read, tail, write, normalise};
+ghost use Rattle.nak.specs.Nak.{nakOutcome, nakErrorByte, nakErrorOutcome, readNakError, nak};
 
 // NAK error code (Table 47).
 pub enum NakErrorCode {
@@ -95,7 +93,7 @@ impl Nak {
     }
 
     pub fn decode(p: &[u8]) -> NakRead
-        ensures { λ r. ⌜ nakOutcome r ≡ readNak (now (p .entry)) ⌝ }
+        ensures { λ r. ⌜ nakOutcome r ≡ read nak (now (p .entry)) ⌝ }
     {
         let fixed = require_at_least(p, Self::WIRE_LEN, Self::CODE);
         let Guard::Pass = fixed else {
@@ -108,7 +106,7 @@ impl Nak {
     }
 
     pub fn check(p: &[u8]) -> Guard
-        ensures { λ r. ⌜ r ≡ checkNak (now (p .entry)) ⌝ }
+        ensures { λ r. ⌜ r ≡ check nak (now (p .entry)) ⌝ }
     {
         match Self::decode(p) {
             NakRead::Read(_) => Guard::Pass,
@@ -118,7 +116,7 @@ impl Nak {
 
     // What reading keeps of an accepted payload: all beside the error that has completion codes, else the error alone.
     fn kept(p: &[u8]) -> &[u8]
-        ensures { λ r. ⌜ now r ≡ without nakLoss (now (p .entry)) ⌝ }
+        ensures { λ r. ⌜ now r ≡ without (loss nak) (now (p .entry)) ⌝ }
     {
         if p.len() == 0 {
             return p;
@@ -131,22 +129,22 @@ impl Nak {
 
     // The completion codes; nothing beside any other error and where reading refuses.
     pub fn completion_codes(p: &[u8]) -> &[u8]
-        ensures { λ r. ⌜ now r ≡ nakTail (now (p .entry)) ⌝ }
+        ensures { λ r. ⌜ now r ≡ tail nak (now (p .entry)) ⌝ }
     {
         tail_where(Self::check(p), Self::kept(p), Self::WIRE_LEN)
     }
 
     // Completion codes are written beside every error.
     pub fn encode(self, completion_codes: &[u8], out: &mut [u8]) -> Written
-        ensures { λ r. ⌜ (r, now (out .exit)) ≡ writeNak self (now («completion_codes» .entry)) (now (out .entry)) ⌝ }
+        ensures { λ r. ⌜ (r, now (out .exit)) ≡ write nak self (now («completion_codes» .entry)) (now (out .entry)) ⌝ }
     {
         let error = self.error;
         put_bytes(&[error.as_byte()], completion_codes, Self::CODE, out)
     }
 
     pub fn normalise(p: &[u8], out: &mut [u8]) -> Written
-        ensures { λ r. ⌜ (r, now (out .exit)) ≡ normalised nakForm (now (p .entry)) (now (out .entry)) ⌝ }
+        ensures { λ r. ⌜ (r, now (out .exit)) ≡ normalise nak (now (p .entry)) (now (out .entry)) ⌝ }
     {
-        put_checked(Self::check(p), Self::kept(p), &[], Self::CODE, out)
+        put_payload(Self::check(p), Self::kept(p), Self::CODE, out)
     }
 }

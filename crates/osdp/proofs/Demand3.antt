@@ -1,9 +1,9 @@
 -- Demand 3, over all thirteen kinds.
 -- Assumes nothing.
 use Rattle.payload_util.proofs.Scheme.{loses-only}
-use Rattle.osdp.specs.Kinds.{kindByte, form, loss}
-use Rattle.osdp.specs.Demand3.{Demand3}
+use Rattle.osdp.specs.Kinds.{form}
+use Rattle.osdp.specs.Promises.{Demand3}
 use Rattle.osdp.proofs.Laws.{law}
 
 pub demand3 : Demand3
-demand3 k = loses-only (kindByte k) (form k) (loss k) (law k)
+demand3 k = loses-only (form k) (law k)

@@ -5,23 +5,19 @@ use mathlib.Core.List.{List, [], _∷_}
 use Prim.Native.Nat.{ℕ, zero, suc, _<_}
 use native.Mathlib.Omega.{arith}
 use lib.ListN.{replicate}
-use Rattle.payload_util.specs.Refusals.{row}
-use Rattle.payload_util.specs.InOrder.{inOrder}
-use Rattle.payload_util.specs.Guards.{exactLen, atLeast, positiveMultipleOf, multipleOf, declaredLen, atMost, room, present}
-use Rattle.payload_util.specs.Form.{Reads}
+use Rattle.payload_util.specs.Refusals.{row, inOrder}
+use Rattle.payload_util.specs.Guards.{exactLen, atLeast, blocksFrom, declaredLen, atMost, room, present}
+use Rattle.payload_util.specs.Loss.{withinLimits}
+use Rattle.payload_util.specs.Form.{ReadsAs}
 use Rattle.output.specs.declared.OutputControlCode.the-variants.{TemporaryOnResume}
-use Rattle.led.specs.LedColor.{colorOf}
-use Rattle.output.specs.Output.{readOutputCode, codesKnown, checkOut}
-use Rattle.text.specs.TextCommand.{readTextCommand}
-use Rattle.text.specs.Text.{printable, textShape, checkText}
-use Rattle.biometric.specs.Codes.{bioTypeOf, bioFormatOf}
-use Rattle.file_transfer.specs.FileTransfer.{checkFileTransfer}
-use Rattle.raw_card.specs.Raw.{checkRaw}
-use Rattle.nak.specs.Nak.{readNakError, checkNak}
+use Rattle.led.specs.Led.{colorOf}
+use Rattle.output.specs.Output.{readOutputCode, codesKnown}
+use Rattle.text.specs.Text.{readTextCommand, printable, textShape}
+use Rattle.biometric.specs.Biometric.{bioTypeOf, bioFormatOf}
+use Rattle.nak.specs.Nak.{readNakError}
 use Rattle.osdp.specs.declared.Kind.the-variants.{Led, Out}
 use Rattle.osdp.specs.Kinds.{form}
-use Rattle.osdp.specs.Strict.{unfolded}
-use Rattle.osdp.specs.Starred.{starred, Refuses, AllHold, none, _and_, greenBytes, green, dark}
+use Rattle.osdp.specs.Starred.{starred, RefusedAs, AllHold, none, _and_, greenBytes, green, dark}
 
 -- what holds of each record of a list of one or two
 one : (P : ℕ → Type 0) → P 0 → (k : ℕ) → k < 1 → P k
@@ -33,16 +29,16 @@ two P first second zero h = first
 two P first second (suc zero) h = second
 two P first second (suc (suc k)) h = absurd (omega arith)
 
-lit : (color : ℕ) → Reads (form Led) (greenBytes color) (green (colorOf color) ∷ [])
-unfolding inOrder positiveMultipleOf multipleOf present colorOf readOutputCode codesKnown checkOut
+lit : (color : ℕ) → ReadsAs (form Led) (greenBytes color) (green (colorOf color) ∷ [])
+unfolding inOrder blocksFrom present colorOf readOutputCode codesKnown
 lit color = (green (colorOf color), refl, refl, one _ refl)
 
-zeros : Reads (form Led) (replicate 28 0x00) (dark ∷ dark ∷ [])
-unfolding inOrder positiveMultipleOf multipleOf present colorOf readOutputCode codesKnown checkOut
+zeros : ReadsAs (form Led) (replicate 28 0x00) (dark ∷ dark ∷ [])
+unfolding inOrder blocksFrom present colorOf readOutputCode codesKnown
 zeros = (dark, refl, refl, two _ refl refl)
 
-three : Reads (form Out) (0x03 ∷ 0x05 ∷ 0x0A ∷ 0x00 ∷ []) (record { output = 3; code = TemporaryOnResume; timer = 10 } ∷ [])
-unfolding inOrder positiveMultipleOf multipleOf present colorOf readOutputCode codesKnown checkOut
+three : ReadsAs (form Out) (0x03 ∷ 0x05 ∷ 0x0A ∷ 0x00 ∷ []) (record { output = 3; code = TemporaryOnResume; timer = 10 } ∷ [])
+unfolding inOrder blocksFrom present colorOf readOutputCode codesKnown
 three = (record { output = 3; code = TemporaryOnResume; timer = 10 }, refl, refl, one _ refl)
 
 -- a record and its tail
@@ -50,20 +46,20 @@ both : {A B : Type 0} → A → B → A × B
 both a b = (a, b)
 
 -- a list that is refused is refused whichever record is asked for
-thirteen : Refuses (form Led) (replicate 13 0x00) (row 5 0x69 14 13)
-unfolding positiveMultipleOf multipleOf
+thirteen : RefusedAs (form Led) (replicate 13 0x00) (row 5 0x69 14 13)
+unfolding blocksFrom
 thirteen k = refl
 
-empty : Refuses (form Led) [] (row 5 0x69 14 0)
-unfolding positiveMultipleOf multipleOf
+empty : RefusedAs (form Led) [] (row 5 0x69 14 0)
+unfolding blocksFrom
 empty k = refl
 
-unknown : Refuses (form Out) (0x03 ∷ 0x05 ∷ 0x0A ∷ 0x00 ∷ 0x04 ∷ 0x07 ∷ 0x00 ∷ 0x00 ∷ []) (row 7 0x68 0 0)
-unfolding inOrder positiveMultipleOf multipleOf readOutputCode codesKnown checkOut
+unknown : RefusedAs (form Out) (0x03 ∷ 0x05 ∷ 0x0A ∷ 0x00 ∷ 0x04 ∷ 0x07 ∷ 0x00 ∷ 0x00 ∷ []) (row 7 0x68 0 0)
+unfolding inOrder blocksFrom readOutputCode codesKnown
 unknown k = refl
 
 pub starred-hold : AllHold starred
-unfolding starred inOrder exactLen atLeast positiveMultipleOf multipleOf declaredLen atMost room present colorOf readOutputCode codesKnown checkOut readTextCommand printable textShape checkText bioTypeOf bioFormatOf checkFileTransfer checkRaw readNakError checkNak unfolded
+unfolding starred inOrder exactLen atLeast blocksFrom declaredLen atMost room present colorOf readOutputCode codesKnown readTextCommand printable textShape bioTypeOf bioFormatOf readNakError withinLimits
 starred-hold =
     lit 0x02
     and refl

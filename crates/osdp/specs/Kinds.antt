@@ -1,102 +1,60 @@
--- The thirteen kinds: for each, the row of definitions that its contracts cite, and what reading loses.
-use mathlib.Core.List.{List, [], _∷_}
-use Prim.Native.Nat.{ℕ}
-use Rattle.payload_util.specs.Refusals.{row}
-use Rattle.payload_util.specs.Outcome.{Outcome, gives, refuses}
-use Rattle.payload_util.specs.Table.{named}
-use Rattle.payload_util.specs.Form.{Form}
-use Rattle.payload_util.specs.Loss.{Loss, aboveInEach}
-use Rattle.codes.specs.CommandCode.{commandByte, readCommand}
-use Rattle.codes.specs.ReplyCode.{replyByte, readReply}
-use Rattle.led.specs.Led.{ledCode, ledForm, ledLimits}
-use Rattle.output.specs.Output.{outCode, outForm, outLoss}
-use Rattle.text.specs.TextCommand.{textCode}
-use Rattle.text.specs.Text.{textForm, textLoss}
-use Rattle.biometric.specs.Biometric.{bioReadCode, bioReadForm, bioMatchCode, bioMatchForm, bioLoss}
-use Rattle.file_transfer.specs.FileTransfer.{fileTransferCode, fileTransferForm, fileTransferLoss}
-use Rattle.mfg.specs.Mfg.{mfgCode, mfgForm, mfgLoss}
-use Rattle.raw_card.specs.Raw.{rawCode, rawForm, rawLoss}
-use Rattle.raw_card.specs.Fmt.{fmtCode, fmtForm, fmtLoss}
-use Rattle.bio.specs.Bio.{bioReadRCode, bioReadRForm, bioMatchRCode, bioMatchRForm, bioMatchRLoss}
-use Rattle.nak.specs.Nak.{nakCode, nakForm, nakLoss}
-use Rattle.xrd.specs.Xrd.{xrdCode, xrdForm, xrdLoss}
-use Rattle.osdp.specs.declared.Kind.{Kind}
+-- The thirteen kinds: the row of each, and the kind that a code byte names.
+use Rattle.payload_util.specs.Prelude.{List, [], _∷_, ℕ, row, named, Outcome, gives, refuses, guardOf, Form, code}
+use Rattle.payload_util.specs.declared.{Guard.Guard, Guard.the-variants.Pass, Guard.the-variants.Refused}
+use Rattle.codes.specs.{CommandCode.readCommand, ReplyCode.readReply}
+use Rattle.led.specs.Led.{leds}
+use Rattle.output.specs.Output.{outputs}
+use Rattle.text.specs.Text.{textKind}
+use Rattle.biometric.specs.Biometric.{bioRead, bioMatch}
+use Rattle.file_transfer.specs.FileTransfer.{fileTransfer}
+use Rattle.mfg.specs.Mfg.{mfg}
+use Rattle.raw_card.specs.{Raw.raw, Fmt.fmt}
+use Rattle.bio.specs.Bio.{bioReadR, bioMatchR}
+use Rattle.nak.specs.Nak.{nak}
+use Rattle.xrd.specs.Xrd.{xrd}
+use Rattle.osdp.specs.declared.{Side.Side, Side.the-variants.Command, Side.the-variants.Reply, Kind.Kind, Lookup.Lookup}
 use Rattle.osdp.specs.declared.Kind.the-variants.{Led, Out, Text, BioRead, BioMatch, FileTransfer, Mfg, Raw, Fmt, BioReadR, BioMatchR, Nak, Xrd}
-use Rattle.osdp.specs.declared.KindRead.{KindRead}
-use Rattle.osdp.specs.declared.KindRead.the-variants.{Read, Refused}
-
-infixr 20 _then_
-abbrev pub kindByte : Kind → ℕ
-kindByte Led = ledCode
-kindByte Out = outCode
-kindByte Text = textCode
-kindByte BioRead = bioReadCode
-kindByte BioMatch = bioMatchCode
-kindByte FileTransfer = fileTransferCode
-kindByte Mfg = mfgCode
-kindByte Raw = rawCode
-kindByte Fmt = fmtCode
-kindByte BioReadR = bioReadRCode
-kindByte BioMatchR = bioMatchRCode
-kindByte Nak = nakCode
-kindByte Xrd = xrdCode
+use Rattle.osdp.specs.declared.Lookup.the-variants.{Carried, NotCarried, Unknown}
 
 abbrev pub form : Kind → Form
-form Led = ledForm
-form Out = outForm
-form Text = textForm
-form BioRead = bioReadForm
-form BioMatch = bioMatchForm
-form FileTransfer = fileTransferForm
-form Mfg = mfgForm
-form Raw = rawForm
-form Fmt = fmtForm
-form BioReadR = bioReadRForm
-form BioMatchR = bioMatchRForm
-form Nak = nakForm
-form Xrd = xrdForm
+form Led = leds
+form Out = outputs
+form Text = textKind
+form BioRead = bioRead
+form BioMatch = bioMatch
+form FileTransfer = fileTransfer
+form Mfg = mfg
+form Raw = raw
+form Fmt = fmt
+form BioReadR = bioReadR
+form BioMatchR = bioMatchR
+form Nak = nak
+form Xrd = xrd
 
--- what reading loses, where the colours up to the highest are kept
-abbrev pub lossAbove : ℕ → Kind → Loss
-lossAbove highest Led = aboveInEach 14 (ledLimits highest)
-lossAbove highest Out = outLoss
-lossAbove highest Text = textLoss
-lossAbove highest BioRead = bioLoss
-lossAbove highest BioMatch = bioLoss
-lossAbove highest FileTransfer = fileTransferLoss
-lossAbove highest Mfg = mfgLoss
-lossAbove highest Raw = rawLoss
-lossAbove highest Fmt = fmtLoss
-lossAbove highest BioReadR = bioLoss
-lossAbove highest BioMatchR = bioMatchRLoss
-lossAbove highest Nak = nakLoss
-lossAbove highest Xrd = xrdLoss
+abbrev pub kinds : Side → List Kind
+kinds Command = Led ∷ Out ∷ Text ∷ BioRead ∷ BioMatch ∷ FileTransfer ∷ Mfg ∷ []
+kinds Reply = Raw ∷ Fmt ∷ BioReadR ∷ BioMatchR ∷ Nak ∷ Xrd ∷ []
 
-abbrev pub loss : Kind → Loss
-loss k = lossAbove 7 k
+-- the side's code table has the byte
+abbrev pub inTable : Side → ℕ → Guard
+inTable Command b = guardOf (readCommand b)
+inTable Reply b = guardOf (readReply b)
 
-abbrev pub commandKinds : List Kind
-commandKinds = Led ∷ Out ∷ Text ∷ BioRead ∷ BioMatch ∷ FileTransfer ∷ Mfg ∷ []
+abbrev pub lookup : Guard → Lookup → Lookup
+lookup Pass found = found
+lookup (Refused e) found = Unknown
 
-abbrev pub replyKinds : List Kind
-replyKinds = Raw ∷ Fmt ∷ BioReadR ∷ BioMatchR ∷ Nak ∷ Xrd ∷ []
+-- what a code byte is on a side: the code of a kind that is carried, another code, or none
+unfoldable pub kindOf : Side → ℕ → Lookup
+kindOf side b = lookup (inTable side b) (named (λ k. code (form k)) Carried NotCarried (kinds side) b)
 
--- the kind among those given that has the code byte; any other code is known and not carried, row 14
-unfoldable pub carried : List Kind → ℕ → Outcome Kind
-carried ks b = named kindByte gives (refuses (row 14 b 0 0)) ks b
+-- row 1 of a command's byte, row 2 of a reply's
+abbrev pub unknownRow : Side → ℕ
+unknownRow Command = 1
+unknownRow Reply = 2
 
-abbrev pub _then_ : {A B : Type 0} → Outcome A → (A → Outcome B) → Outcome B
-_then_ (gives a) f = f a
-_then_ (refuses e) f = refuses e
-
--- the kind that a command's code byte names: row 1, then row 14
-unfoldable pub commandKind : ℕ → Outcome Kind
-commandKind b = readCommand b then λ c. carried commandKinds (commandByte c)
-
--- the kind that a reply's code byte names: row 2, then row 14
-unfoldable pub replyKind : ℕ → Outcome Kind
-replyKind b = readReply b then λ c. carried replyKinds (replyByte c)
-
-abbrev pub kindOutcome : KindRead → Outcome Kind
-kindOutcome (Read k) = gives k
-kindOutcome (Refused e) = refuses e
+-- the kind, or rows 1 or 2 and 14
+abbrev pub lookupOutcome : Side → ℕ → Lookup → Outcome Kind
+lookupOutcome side b (Carried k) = gives k
+lookupOutcome side b NotCarried = refuses (row 14 b 0 0)
+lookupOutcome side b Unknown = refuses (row (unknownRow side) b 0 0)

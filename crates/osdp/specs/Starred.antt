@@ -1,17 +1,11 @@
 -- The starred payloads of document 01, as one list.
-use mathlib.Core.Path.{_≡_}
-use mathlib.Core.List.{List, [], _∷_, _++_}
-use Prim.Native.Nat.{ℕ, _-_}
-use lib.ListN.{length, replicate}
-use Rattle.payload_util.specs.Refusals.{row}
-use Rattle.payload_util.specs.Outcome.{refuses}
-use Rattle.payload_util.specs.Form.{Form, fixed, tailed, listed, Record, Reads, normalised}
-use Rattle.payload_util.specs.declared.Refusal.{Refusal}
-use Rattle.payload_util.specs.declared.Guard.{Guard}
-use Rattle.payload_util.specs.declared.Guard.the-variants.{Pass, Refused}
+use Prim.Native.Nat.{_-_}
+use lib.ListN.{replicate}
+use Rattle.payload_util.specs.Prelude.{_≡_, List, [], _∷_, _++_, ℕ, length, row, refuses, Form, fixed, tailed, listed, read, strict, normalise}
+use Rattle.payload_util.specs.Form.{Record, ReadsAs}
+use Rattle.payload_util.specs.declared.{Refusal.Refusal, Guard.Guard, Guard.the-variants.Pass, Guard.the-variants.Refused}
 use Rattle.payload_util.specs.declared.Written.the-variants.{Wrote}
-use Rattle.led.specs.declared.LedRecord.{LedRecord}
-use Rattle.led.specs.declared.LedColor.{LedColor}
+use Rattle.led.specs.declared.{LedRecord.LedRecord, LedColor.LedColor}
 use Rattle.led.specs.declared.LedColor.the-variants.{Black, Red, Green}
 use Rattle.output.specs.declared.OutputControlCode.the-variants.{TemporaryOnResume}
 use Rattle.text.specs.declared.TextCommand.the-variants.{PermanentNoWrap}
@@ -19,7 +13,6 @@ use Rattle.nak.specs.declared.NakErrorCode.the-variants.{UnknownCommandCode, Un
 use Rattle.osdp.specs.declared.Kind.{Kind}
 use Rattle.osdp.specs.declared.Kind.the-variants.{Led, Out, Text, BioRead, FileTransfer, Raw, Nak}
 use Rattle.osdp.specs.Kinds.{form}
-use Rattle.osdp.specs.Strict.{strictKind}
 
 -- a payload, and what it reads as, is refused as, normalises to, or what strict says of it
 pub data Case : Type 0 where
@@ -29,17 +22,17 @@ pub data Case : Type 0 where
   strictSays : Kind → List ℕ → Guard → Case
 
 -- the reader refuses the payload; a list's, whichever record is asked for
-abbrev pub Refuses : Form → List ℕ → Refusal → Type 0
-Refuses (fixed A check read write) p e = read p ≡ refuses e
-Refuses (tailed A check read tail write) p e = read p ≡ refuses e
-Refuses (listed w A check read all write) p e = (k : ℕ) → read p k ≡ refuses e
+abbrev pub RefusedAs : Form → List ℕ → Refusal → Type 0
+RefusedAs (fixed k) p e = read (fixed k) p ≡ refuses e
+RefusedAs (tailed k) p e = read (tailed k) p ≡ refuses e
+RefusedAs (listed k) p e = (i : ℕ) → read (listed k) p i ≡ refuses e
 
 abbrev pub Holds : Case → Type 0
-Holds (reads k p r) = Reads (form k) p r
-Holds (isRefused k p e) = Refuses (form k) p e
+Holds (reads k p r) = ReadsAs (form k) p r
+Holds (isRefused k p e) = RefusedAs (form k) p e
 -- into a buffer of zeros as long as the payload
-Holds (normalises k p q) = normalised (form k) p (replicate (length p) 0) ≡ (Wrote (length q), q ++ replicate (length p - length q) 0)
-Holds (strictSays k p g) = strictKind 7 k p ≡ g
+Holds (normalises k p q) = normalise (form k) p (replicate (length p) 0) ≡ (Wrote (length q), q ++ replicate (length p - length q) 0)
+Holds (strictSays k p g) = strict (form k) p ≡ g
 
 infixr 10 _and_
 pub data AllHold : List Case → Type 0 where
@@ -67,9 +60,6 @@ dark = record {
   permanent = record { control = 0; «on_time» = 0; «off_time» = 0; «on_color» = Black; «off_color» = Black };
 }
 
-abbrev pub hi : List ℕ
-hi = 0x00 ∷ 0x01 ∷ 0x00 ∷ 0x01 ∷ 0x01 ∷ 0x02 ∷ 0x48 ∷ 0x69 ∷ []
-
 unfoldable pub starred : List Case
 starred =
     reads Led (greenBytes 0x02) (green Green ∷ [])
@@ -83,7 +73,7 @@ starred =
     ∷ reads Out (0x03 ∷ 0x05 ∷ 0x0A ∷ 0x00 ∷ []) (record { output = 3; code = TemporaryOnResume; timer = 10 } ∷ [])
     ∷ normalises Out (0x03 ∷ 0x05 ∷ 0x0A ∷ 0x00 ∷ []) (0x03 ∷ 0x05 ∷ 0x0A ∷ 0x00 ∷ [])
     ∷ isRefused Out (0x03 ∷ 0x05 ∷ 0x0A ∷ 0x00 ∷ 0x04 ∷ 0x07 ∷ 0x00 ∷ 0x00 ∷ []) (row 7 0x68 0 0)
-    ∷ reads Text hi (record { reader = 0; command = PermanentNoWrap; «temp_time_s» = 0; row = 1; column = 1 }, 0x48 ∷ 0x69 ∷ [])
+    ∷ reads Text (0x00 ∷ 0x01 ∷ 0x00 ∷ 0x01 ∷ 0x01 ∷ 0x02 ∷ 0x48 ∷ 0x69 ∷ []) (record { reader = 0; command = PermanentNoWrap; «temp_time_s» = 0; row = 1; column = 1 }, 0x48 ∷ 0x69 ∷ [])
     ∷ isRefused Text (0x00 ∷ 0x09 ∷ 0x00 ∷ 0x01 ∷ 0x01 ∷ 0x01 ∷ 0x1F ∷ []) (row 8 0x6B 0 0)
     ∷ reads Raw (0x00 ∷ 0x00 ∷ 0x00 ∷ 0x00 ∷ []) (record { reader = 0; «format_code» = 0; «bit_count» = 0 }, [])
     ∷ reads Raw (0x00 ∷ 0x00 ∷ 0x1A ∷ 0x00 ∷ 0x12 ∷ 0x34 ∷ 0x56 ∷ 0x80 ∷ [])

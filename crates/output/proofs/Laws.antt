@@ -12,14 +12,17 @@ use Rattle.payload_util.specs.Bytes.{byteAt}
 use Rattle.payload_util.specs.Refusals.{row}
 use Rattle.payload_util.specs.Guards.{atLeast, positiveMultipleOf}
 use Rattle.payload_util.specs.Outcome.{gives, guardOf, valueOr}
+use Rattle.payload_util.specs.Form.{check}
 use Rattle.payload_util.specs.declared.Guard.the-variants.{Pass}
 use Rattle.payload_util.proofs.Guards.{also-pass, multiple-pass}
 use Rattle.payload_util.proofs.InOrder.{all-pass}
 use Rattle.payload_util.proofs.Table.{exact, exact-value}
 use Rattle.payload_util.proofs.Words.{low-byte, high-byte}
+use Rattle.payload_util.proofs.Parts.{by-head}
+use Rattle.payload_util.proofs.Each.{each-kept}
 use Rattle.payload_util.proofs.Scheme.{Law}
-use Rattle.payload_util.proofs.Forms.{listed-law, each-kept, by-head}
-use Rattle.output.specs.Output.{outCode, outputByte, outputCodes, readOutputCode, codeKnown, codesKnown, checkOut, outOf, readOutAt, outBytes, outForm, outLoss}
+use Rattle.payload_util.proofs.Forms.{listed-law}
+use Rattle.output.specs.Output.{outCode, outputByte, outputCodes, readOutputCode, codeKnown, codesKnown, outOf, readOutAt, outBytes, outputs}
 use Rattle.output.specs.declared.OutputControlCode.{OutputControlCode}
 use Rattle.output.specs.declared.OutputControlCode.the-variants.{Nop, PermanentOffAbortTimed, PermanentOnAbortTimed, PermanentOffAllowTimed, PermanentOnAllowTimed, TemporaryOnResume, TemporaryOffResume}
 
@@ -43,13 +46,12 @@ output-kept : (b : ℕ) → guardOf (readOutputCode b) ≡ Pass → outputByte (
 unfolding readOutputCode
 output-kept b e = exact-value outputByte (row 7 outCode 0 0) outputCodes b Nop e
 
-module _ (p : List ℕ) (g : checkOut p ≡ Pass) where
+module _ (p : List ℕ) (g : check outputs p ≡ Pass) where
   out-blocks : (length p ≡ length p / 4 * 4) × (0 < length p / 4)
-  unfolding checkOut
   out-blocks = multiple-pass 4 outCode p (also-pass (positiveMultipleOf 4 outCode p) (codesKnown p) g .0)
 
   out-codes : (k : ℕ) → k < length p / 4 → codeKnown p k ≡ Pass
-  unfolding checkOut codesKnown
+  unfolding codesKnown
   out-codes = all-pass (codeKnown p) (length p / 4) (also-pass (positiveMultipleOf 4 outCode p) (codesKnown p) g .1)
 
   -- each record of an accepted list can be read by itself
@@ -59,9 +61,9 @@ module _ (p : List ℕ) (g : checkOut p ≡ Pass) where
       let long : 4 ≤ length (drop (4 * k) p) = simp length-drop (omega arith) in
       simp (le-leb 4 (length (drop (4 * k) p)) long, getD-drop (4 * k) p 1 0, out-codes k h)
 
-pub out-law : Law outCode outForm outLoss
+pub out-law : Law outputs
 out-law =
-    listed-law outOf outBytes 4 (λ r. refl) (λ r t. simp (mod-add-div, output-back)) checkOut (omega arith) (λ p g. out-blocks p g .1)
+    listed-law (λ r. refl) (λ r t. simp (mod-add-div, output-back)) (omega arith) (λ p g. out-blocks p g .1)
     (λ p b g.
     each-kept outOf outBytes 4 (λ n q. (k : ℕ) → k < n → codeKnown q k ≡ Pass) (λ n q. q) refl
     (λ n q c h known. (
@@ -71,3 +73,4 @@ out-law =
           simp (getD-drop, e) (known (suc k) (omega arith))),
     ))
     (length p / 4) p b (out-blocks p g .0) (out-codes p g))
+    (λ p g. g)

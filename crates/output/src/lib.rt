@@ -6,20 +6,15 @@ use payload_util::Refusal;
 use payload_util::Written;
 use payload_util::high_byte;
 use payload_util::low_byte;
-use payload_util::put_checked;
+use payload_util::put_payload;
 use payload_util::require_at_least;
 use payload_util::require_positive_multiple_of;
 use payload_util::require_present;
 use payload_util::tail_from;
-use payload_util::u16_of;
-ghost use mathlib.Core.Path.{_≡_};
-ghost use Prim.Native.Nat.{_*_, _/_, _≤_};
-ghost use lib.ListN.{length, drop};
-ghost use Rattle.payload_util.specs.Outcome.{guardOf};
-ghost use Rattle.payload_util.specs.Form.{normalised};
+use payload_util::u16_at;
+ghost use Rattle.payload_util.specs.Prelude.{_≡_, _*_, _/_, _≤_, length, drop, guardOf, check, read, write, normalise};
 ghost use Rattle.lists.specs.List.{putAt};
-ghost use Rattle.output.specs.Output.{outCode, outputByte, readOutputCode, outputCodeOutcome, checkOut, codesKnown};
-ghost use Rattle.output.specs.Output.{outOutcome, readOut, readOutAt, outBytes, writeOuts, outForm};
+ghost use Rattle.output.specs.Output.{outOutcome, outCode, outputByte, readOutputCode, outputCodeOutcome, codesKnown, readOutAt, outBytes, outputs};
 
 // Table 14.
 pub enum OutputControlCode {
@@ -103,7 +98,7 @@ impl OutputRecord {
 
     // The whole list: one unknown code refuses it.
     pub fn check(p: &[u8]) -> Guard
-        ensures { λ r. ⌜ r ≡ checkOut (now (p .entry)) ⌝ }
+        ensures { λ r. ⌜ r ≡ check outputs (now (p .entry)) ⌝ }
     {
         let blocks = require_positive_multiple_of(p, Self::WIRE_LEN, Self::CODE);
         let Guard::Pass = blocks else {
@@ -135,26 +130,26 @@ impl OutputRecord {
         p.len() / Self::WIRE_LEN
     }
 
-    // Record k; the whole list is checked first.
-    pub fn decode(p: &[u8], k: usize) -> OutputRead
-        ensures { λ r. ⌜ outOutcome r ≡ readOut (now (p .entry)) k ⌝ }
+    // The record of an index; the whole list is checked first.
+    pub fn decode(p: &[u8], index: usize) -> OutputRead
+        ensures { λ r. ⌜ outOutcome r ≡ read outputs (now (p .entry)) index ⌝ }
     {
         let checked = Self::check(p);
         let Guard::Pass = checked else {
             return OutputRead::Refused(checked.refusal());
         };
-        let present = require_present(k, Self::count(p), Self::CODE);
+        let present = require_present(index, Self::count(p), Self::CODE);
         let Guard::Pass = present else {
             return OutputRead::Refused(present.refusal());
         };
-        Self::decode_at(p, Self::WIRE_LEN * k)
+        Self::decode_at(p, Self::WIRE_LEN * index)
     }
 
-    // The record whose bytes start at a place, wherever the place is: row 4 where fewer than 4 bytes are left from there, row 7.
-    pub fn decode_at(p: &[u8], at: usize) -> OutputRead
-        ensures { λ r. ⌜ outOutcome r ≡ readOutAt (drop at (now (p .entry))) ⌝ }
+    // The record whose bytes start at an offset, wherever that is: row 4 where fewer than 4 bytes are left from there, row 7.
+    pub fn decode_at(p: &[u8], offset: usize) -> OutputRead
+        ensures { λ r. ⌜ outOutcome r ≡ readOutAt (drop offset (now (p .entry))) ⌝ }
     {
-        let part = tail_from(p, at);
+        let part = tail_from(p, offset);
         let long = require_at_least(part, Self::WIRE_LEN, Self::CODE);
         let Guard::Pass = long else {
             return OutputRead::Refused(long.refusal());
@@ -163,15 +158,15 @@ impl OutputRecord {
             OutputControlCodeRead::Read(code) => OutputRead::Read(OutputRecord {
                 output: part[0],
                 code,
-                timer: u16_of(part[2], part[3]),
+                timer: u16_at(part, 2),
             }),
             OutputControlCodeRead::Refused(e) => OutputRead::Refused(e),
         }
     }
 
-    // The record's bytes into out from a place on; row 15 where they do not fit.
-    pub fn encode_at(self, out: &mut [u8], at: usize) -> Written
-        ensures { λ r. ⌜ (r, now (out .exit)) ≡ putAt outCode at (outBytes self) (now (out .entry)) ⌝ }
+    // The record's bytes into out from an offset on; row 15 where they do not fit.
+    pub fn encode_at(self, out: &mut [u8], offset: usize) -> Written
+        ensures { λ r. ⌜ (r, now (out .exit)) ≡ putAt outCode offset (outBytes self) (now (out .entry)) ⌝ }
     {
         let code = self.code;
         let bytes = [
@@ -180,12 +175,12 @@ impl OutputRecord {
             low_byte(self.timer),
             high_byte(self.timer),
         ];
-        put_at(&bytes, Self::CODE, out, at)
+        put_at(&bytes, Self::CODE, out, offset)
     }
 
     // A lent list, record by record from the front of out: row 11 for an empty list, then row 15.
     pub fn encode(records: &[OutputRecord], out: &mut [u8]) -> Written
-        ensures { λ r. ⌜ (r, now (out .exit)) ≡ writeOuts (now (records .entry)) (now (out .entry)) ⌝ }
+        ensures { λ r. ⌜ (r, now (out .exit)) ≡ write outputs (now (records .entry)) (now (out .entry)) ⌝ }
     {
         let n = records.len();
         let answer = list_answer(n, Self::WIRE_LEN, Self::CODE, out.len());
@@ -202,8 +197,8 @@ impl OutputRecord {
 
     // Reading loses nothing: an accepted payload is written as it came.
     pub fn normalise(p: &[u8], out: &mut [u8]) -> Written
-        ensures { λ r. ⌜ (r, now (out .exit)) ≡ normalised outForm (now (p .entry)) (now (out .entry)) ⌝ }
+        ensures { λ r. ⌜ (r, now (out .exit)) ≡ normalise outputs (now (p .entry)) (now (out .entry)) ⌝ }
     {
-        put_checked(Self::check(p), p, &[], Self::CODE, out)
+        put_payload(Self::check(p), p, Self::CODE, out)
     }
 }

@@ -1,7 +1,7 @@
 -- What a guard's pass tells, and what a caller of a guard has.
 -- Assumes nothing.
 use mathlib.Core.Path.{_≡_, refl, sym, ap, _∙_}
-use mathlib.Core.Bool.{Bool, true, false}
+use mathlib.Core.Bool.{Bool, true, false, _&&_}
 use mathlib.Core.List.{List}
 use Prim.Native.Nat.{ℕ, zero, suc, _+_, _*_, _/_, _%_, _≤_, _<_}
 use native.Mathlib.Nat.{div-add-mod', zero-mul}
@@ -9,18 +9,22 @@ use native.Mathlib.Omega.{arith}
 use borrow.Author.Tests.{leb-true, eqb-true, ltb-true, le-leb, lt-ltb, eq-eqb}
 use lib.ListN.{length, drop, length-drop}
 use lib.Dec.{leb, ltb, eqb}
-use Rattle.payload_util.specs.Refusals.{row, check, _also_, refusalOf}
+use Rattle.payload_util.specs.Refusals.{row, require, _also_, refusalOf}
 use Rattle.payload_util.specs.Outcome.{Outcome, gives, refuses, outcome, guardOf}
-use Rattle.payload_util.specs.Guards.{exactLen, atLeast, multipleOf, positiveMultipleOf, declaredLen, counted, atMost, counts, room, present}
+use Rattle.payload_util.specs.Guards.{exactLen, atLeast, blocksFrom, positiveMultipleOf, declaredLen, headAndTail, atMost, tailLen, room, present}
 use Rattle.payload_util.specs.declared.Refusal.{Refusal}
 use Rattle.payload_util.specs.declared.Guard.{Guard}
 use Rattle.payload_util.specs.declared.Guard.the-variants.{Pass, Refused}
 
 -- ---- a guard that passes
 
-pub check-pass : (b : Bool) (e : Refusal) → check b e ≡ Pass → b ≡ true
+pub check-pass : (b : Bool) (e : Refusal) → require b e ≡ Pass → b ≡ true
 check-pass true e h = refl
 check-pass false e h = cc
+
+both : (a b : Bool) → (a && b) ≡ true → (a ≡ true) × (b ≡ true)
+both true b h = (refl, h)
+both false b h = let z : false ≡ true = h in (z, cc)
 
 pub also-pass : (g h : Guard) → (g also h) ≡ Pass → (g ≡ Pass) × (h ≡ Pass)
 also-pass Pass h e = (refl, e)
@@ -59,25 +63,25 @@ module _ (n code : ℕ) (p : List ℕ) where
   unfolding atMost
   pass-most h = simp (le-leb _ _ h)
 
-  pub pass-counts : length p ≡ n → counts n code p ≡ Pass
-  unfolding counts
-  pass-counts h = simp (eq-eqb _ _ h)
+  pub pass-tail-len : length p ≡ n → tailLen n code p ≡ Pass
+  unfolding tailLen
+  pass-tail-len h = simp (eq-eqb _ _ h)
 
-  pub counted-pass : (m : ℕ) → counted n m code p ≡ Pass → (n ≤ length p) × (length (drop n p) ≡ m)
+  pub head-and-tail-pass : (m : ℕ) → headAndTail n m code p ≡ Pass → (n ≤ length p) × (length (drop n p) ≡ m)
   unfolding declaredLen
-  counted-pass m e =
+  head-and-tail-pass m e =
       let (least, all) = also-pass (atLeast n code p) (declaredLen (n + m) code p) e in
       let l : length p ≡ n + m = eqb-true _ _ (check-pass _ _ all) in
       (least-pass least, length-drop n p ∙ omega arith)
 
   pub multiple-pass : positiveMultipleOf n code p ≡ Pass → (length p ≡ length p / n * n) × (zero < length p / n)
-  unfolding positiveMultipleOf multipleOf
+  unfolding blocksFrom
   multiple-pass e =
-      let (filled, rest) = also-pass (check (ltb 0 (length p)) (row 5 code n (length p))) _ e in
-      let (blocks, whole) = also-pass (check (ltb 0 n) (row 5 code n (length p))) _ rest in
-      let r : length p % n ≡ 0 = eqb-true _ _ (check-pass _ _ whole) in
+      let (some-blocks, whole) = both (ltb 0 n && leb 1 (length p)) (eqb (length p % n) 0) (check-pass (ltb 0 n && leb 1 (length p) && eqb (length p % n) 0) _ e) in
+      let filled = both (ltb 0 n) (leb 1 (length p)) some-blocks .1 in
+      let r : length p % n ≡ 0 = eqb-true _ _ whole in
       let l : length p ≡ length p / n * n = sym (div-add-mod' (length p) n) ∙ omega arith in
-      (l, some (length p / n) l (ltb-true _ _ (check-pass _ _ filled)))
+      (l, some (length p / n) l (leb-true _ _ filled))
     where
       some : (m : ℕ) → length p ≡ m * n → zero < length p → zero < m
       some zero e pos = absurd (omega (arith, zero-mul n))
@@ -91,9 +95,9 @@ pub pass-room : (code needed given : ℕ) → needed ≤ given → room code nee
 unfolding room
 pass-room code needed given h = simp (le-leb _ _ h)
 
-pub present-pass : (code k count : ℕ) → present code k count ≡ Pass → k < count
+pub present-pass : (code index count : ℕ) → present code index count ≡ Pass → index < count
 unfolding present
-present-pass code k count h = ltb-true _ _ (check-pass _ _ h)
+present-pass code index count h = ltb-true _ _ (check-pass _ _ h)
 
 pub pass-present : (code k count : ℕ) → k < count → present code k count ≡ Pass
 unfolding present
@@ -122,3 +126,8 @@ guard-gives e = simp e
 
 pub guard-refuses : {A : Type 0} {o : Outcome A} {e : Refusal} → o ≡ refuses e → guardOf o ≡ Refused e
 guard-refuses e = simp e
+
+-- a reader's refusal is that of its checks
+pub guard-outcome : {A : Type 0} (g : Guard) (a : A) → guardOf (outcome g a) ≡ g
+guard-outcome Pass a = refl
+guard-outcome (Refused e) a = refl

@@ -5,6 +5,9 @@ pub mod Below
 pub mod InOrder
 pub mod Filled
 pub mod Words
+pub mod Each
 pub mod Scheme
 pub mod Forms
 pub mod Losses
+pub mod Limits
+pub mod Folds

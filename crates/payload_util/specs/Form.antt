@@ -1,69 +1,163 @@
--- A kind of payload by the definitions that its contracts cite, and what demand 3 says of it.
+-- A kind of payload is one row; what its contracts cite and what demand 3 says of it are said once, of every row.
 use mathlib.Core.Path.{_≡_}
 use mathlib.Core.Logic.{_↔_}
-use mathlib.Core.List.{List}
-use Prim.Native.Nat.{ℕ, _/_, _<_}
-use lib.ListN.{length, getD, take}
-use Rattle.payload_util.specs.Bytes.{Bytes}
-use Rattle.payload_util.specs.Loss.{Loss, without}
-use Rattle.payload_util.specs.Outcome.{Outcome, gives, outcome}
-use Rattle.payload_util.specs.Writing.{Left, rewrite}
+use mathlib.Core.List.{List, []}
+use Prim.Native.Nat.{ℕ, _*_, _/_, _<_}
+use lib.ListN.{length, getD, take, drop}
+use Rattle.payload_util.specs.Bytes.{Bytes, each, flat}
+use Rattle.payload_util.specs.Refusals.{_also_}
+use Rattle.payload_util.specs.Guards.{notEmpty, present}
+use Rattle.payload_util.specs.Loss.{Loss, without, withinLimits}
+use Rattle.payload_util.specs.Outcome.{Outcome, gives, outcome, tailWhere}
+use Rattle.payload_util.specs.Writing.{Effect, putChecked, rewrite}
 use Rattle.payload_util.specs.declared.Guard.{Guard}
 use Rattle.payload_util.specs.declared.Written.the-variants.{Wrote}
 
--- A record has fixed fields alone, or a tail too, or the payload is a list of records of so many bytes. A kind is its record type, its check,
--- its reader, its tail, and its writer: answer and buffer. A list's reader is asked for record k; normalise takes all its records.
+-- The row of a kind whose record has fixed fields alone: its code byte, what its reader checks, what stands at each offset whether the payload
+-- is accepted or not, what its writer refuses a record for, room aside, the bytes of a record, and what reading loses.
+pub record Fixed (A : Type 0) : Type 0 where
+  pub code : ℕ
+  pub check : ℕ → List ℕ → Guard
+  pub fields : List ℕ → A
+  pub refuse : ℕ → A → Guard
+  pub bytes : A → List ℕ
+  pub loss : Loss
+
+-- the same with a tail: where it stands in a payload
+pub record Tailed (A : Type 0) : Type 0 where
+  pub code : ℕ
+  pub check : ℕ → List ℕ → Guard
+  pub fields : List ℕ → A
+  pub rest : List ℕ → List ℕ
+  pub refuse : ℕ → A → List ℕ → Guard
+  pub bytes : A → List ℕ → List ℕ
+  pub loss : Loss
+
+-- a list of records of so many bytes, the first of which is `fields`; only the empty list is refused
+pub record Listed (A : Type 0) : Type 0 where
+  pub code : ℕ
+  pub width : ℕ
+  pub check : ℕ → List ℕ → Guard
+  pub fields : List ℕ → A
+  pub bytes : A → List ℕ
+  pub loss : Loss
+
 pub data Form : Type 1 where
-  fixed : (A : Type 0) → (List ℕ → Guard) → (List ℕ → Outcome A) → (A → List ℕ → Left) → Form
-  tailed : (A : Type 0) → (List ℕ → Guard) → (List ℕ → Outcome A) → (List ℕ → List ℕ) → (A → List ℕ → List ℕ → Left) → Form
-  listed : ℕ → (A : Type 0) → (List ℕ → Guard) → (List ℕ → ℕ → Outcome A) → (List ℕ → List A) → (List A → List ℕ → Left) → Form
+  fixed : {A : Type 0} → Fixed A → Form
+  tailed : {A : Type 0} → Tailed A → Form
+  listed : {A : Type 0} → Listed A → Form
+
+abbrev pub code : Form → ℕ
+code (fixed k) = k .code
+code (tailed k) = k .code
+code (listed k) = k .code
+
+abbrev pub loss : Form → Loss
+loss (fixed k) = k .loss
+loss (tailed k) = k .loss
+loss (listed k) = k .loss
+
+-- the checks of the kind's reader
+abbrev pub check : Form → List ℕ → Guard
+check (fixed k) p = k .check (k .code) p
+check (tailed k) p = k .check (k .code) p
+check (listed k) p = k .check (k .code) p
 
 -- a record is its fixed fields, with its tail where it has one; a list counts as one record
 abbrev pub Record : Form → Type 0
-Record (fixed A check read write) = A
-Record (tailed A check read tail write) = A × List ℕ
-Record (listed w A check read all write) = List A
+Record (fixed {A} k) = A
+Record (tailed {A} k) = A × List ℕ
+Record (listed {A} k) = List A
 
--- the checks of the kind's reader
-abbrev pub checked : Form → List ℕ → Guard
-checked (fixed A check read write) = check
-checked (tailed A check read tail write) = check
-checked (listed w A check read all write) = check
+-- what stands in a payload; a list's records each from the end of the one before
+abbrev pub whole : (f : Form) → List ℕ → Record f
+whole (fixed k) p = k .fields p
+whole (tailed k) p = (k .fields p, k .rest p)
+whole (listed k) p = each (k .fields) (k .width) (length p / k .width) p
+
+abbrev pub refuse : (f : Form) → Record f → Guard
+refuse (fixed k) r = k .refuse (k .code) r
+refuse (tailed k) r = k .refuse (k .code) (r .0) (r .1)
+refuse (listed k) rs = notEmpty (k .code) rs
+
+abbrev pub bytes : (f : Form) → Record f → List ℕ
+bytes (fixed k) r = k .bytes r
+bytes (tailed k) r = k .bytes (r .0) (r .1)
+bytes (listed k) rs = flat (k .bytes) rs
+
+abbrev pub Reading : Form → Type 0
+Reading (fixed {A} k) = Outcome A
+Reading (tailed {A} k) = Outcome A
+Reading (listed {A} k) = ℕ → Outcome A
+
+abbrev pub Fields : Form → Type 0
+Fields (fixed {A} k) = A
+Fields (tailed {A} k) = A
+Fields (listed {A} k) = A
+
+-- what stands at each offset; of a list, its first record
+abbrev pub fields : (f : Form) → List ℕ → Fields f
+fields (fixed k) p = k .fields p
+fields (tailed k) p = k .fields p
+fields (listed k) p = k .fields p
+
+-- a reader gives the fixed fields; a list's reader is asked for record k, and row 16 refuses it where there is none
+abbrev pub read : (f : Form) → List ℕ → Reading f
+read (fixed k) p = outcome (check (fixed k) p) (k .fields p)
+read (tailed k) p = outcome (check (tailed k) p) (k .fields p)
+read (listed k) p = λ i. outcome (check (listed k) p also present (k .code) i (length p / k .width)) (k .fields (drop (k .width * i) p))
+
+-- the tail; nothing where reading refuses, and where the kind has none
+abbrev pub tail : Form → List ℕ → List ℕ
+tail (fixed k) p = []
+tail (tailed k) p = tailWhere (check (tailed k) p) (k .rest p)
+tail (listed k) p = []
+
+-- what writing a record leaves: answer and buffer
+abbrev pub written : (f : Form) → Record f → List ℕ → Effect
+written f r out = putChecked (refuse f r) (code f) (bytes f r) out
+
+abbrev pub Writing : Form → Type 0
+Writing (fixed {A} k) = A → List ℕ → Effect
+Writing (tailed {A} k) = A → List ℕ → List ℕ → Effect
+Writing (listed {A} k) = List A → List ℕ → Effect
+
+-- the same of fixed fields, and of fixed fields and a tail
+abbrev pub write : (f : Form) → Writing f
+write (fixed k) = λ r out. written (fixed k) r out
+write (tailed k) = λ r t out. written (tailed k) (r, t) out
+write (listed k) = λ rs out. written (listed k) rs out
+
+-- the strict check: the reader's checks, then row 17 for the first byte, by offset, that reading would fold
+abbrev pub strict : Form → List ℕ → Guard
+strict f p = check f p also withinLimits 17 (code f) (loss f) p
+
+-- normalise: read a payload and write the record again
+abbrev pub normalise : Form → List ℕ → List ℕ → Effect
+normalise f p out = rewrite (outcome (check f p) (whole f p)) (λ r. written f r out) out
 
 -- the payload is accepted: the reader gives a record; of a list, record 0
 abbrev pub Accepted : Form → List ℕ → Type 0
-Accepted (fixed A check read write) p = (r : A) × (read p ≡ gives r)
-Accepted (tailed A check read tail write) p = (r : A) × (read p ≡ gives r)
-Accepted (listed w A check read all write) p = (r : A) × (read p 0 ≡ gives r)
+Accepted (fixed {A} k) p = (r : A) × (read (fixed k) p ≡ gives r)
+Accepted (tailed {A} k) p = (r : A) × (read (tailed k) p ≡ gives r)
+Accepted (listed {A} k) p = (r : A) × (read (listed k) p 0 ≡ gives r)
 
--- the payload is accepted, and reads as this record; a list, as its records k, for every k below its length / w
-abbrev pub Reads : (f : Form) → List ℕ → Record f → Type 0
-Reads (fixed A check read write) p r = read p ≡ gives r
-Reads (tailed A check read tail write) p r = (read p ≡ gives (r .0)) × (tail p ≡ r .1)
-Reads (listed w A check read all write) p rs =
-    (r₀ : A) × (read p 0 ≡ gives r₀) × (length rs ≡ length p / w)
-    × ((k : ℕ) → k < length p / w → read p k ≡ gives (getD rs k r₀))
-
--- what writing a record leaves: answer and buffer
-abbrev pub written : (f : Form) → Record f → List ℕ → Left
-written (fixed A check read write) r out = write r out
-written (tailed A check read tail write) r out = write (r .0) (r .1) out
-written (listed w A check read all write) rs out = write rs out
+-- the payload is accepted, and reads as this record; a list, as its records i, for every i below its length / width
+abbrev pub ReadsAs : (f : Form) → List ℕ → Record f → Type 0
+ReadsAs (fixed k) p r = read (fixed k) p ≡ gives r
+ReadsAs (tailed k) p r = (read (tailed k) p ≡ gives (r .0)) × (tail (tailed k) p ≡ r .1)
+ReadsAs (listed {A} k) p rs =
+    (r₀ : A) × (read (listed k) p 0 ≡ gives r₀) × (length rs ≡ length p / k .width)
+    × ((i : ℕ) → i < length p / k .width → read (listed k) p i ≡ gives (getD rs i r₀))
 
 -- the record is written without refusal into some buffer, and these are the buffer's first bytes then, as many as the writer counts
-abbrev pub Gives : (f : Form) → Record f → List ℕ → Type 0
-Gives f r b = (out : List ℕ) × (n : ℕ) × (written f r out .0 ≡ Wrote n) × (b ≡ take n (written f r out .1))
-
--- normalise: read a payload and write the record again
-abbrev pub normalised : Form → List ℕ → List ℕ → Left
-normalised (fixed A check read write) p out = rewrite (read p) (λ r. write r out) out
-normalised (tailed A check read tail write) p out = rewrite (read p) (λ r. write r (tail p) out) out
-normalised (listed w A check read all write) p out = rewrite (outcome (check p) (all p)) (λ rs. write rs out) out
+abbrev pub WritesAs : (f : Form) → Record f → List ℕ → Type 0
+WritesAs f r b = (out : List ℕ) × (n : ℕ) × (written f r out .0 ≡ Wrote n) × (b ≡ take n (written f r out .1))
 
 -- every accepted payload reads as a record; payloads read as the same record exactly when they are equal without what is lost; records give
 -- the same bytes exactly when they are the same
-abbrev pub LosesOnly : Form → Loss → Type 0
-LosesOnly f l =
-    ((p : List ℕ) → Accepted f p → (r : Record f) × Reads f p r)
-    × ((p q : List ℕ) (r s : Record f) → Bytes p → Bytes q → Reads f p r → Reads f q s → (r ≡ s) ↔ (without l p ≡ without l q))
-    × ((r s : Record f) (b c : List ℕ) → Gives f r b → Gives f s c → (b ≡ c) ↔ (r ≡ s))
+abbrev pub LosesOnly : Form → Type 0
+LosesOnly f =
+    ((p : List ℕ) → Accepted f p → (r : Record f) × ReadsAs f p r)
+    × ((p q : List ℕ) (r s : Record f) → Bytes p → Bytes q → ReadsAs f p r → ReadsAs f q s → (r ≡ s) ↔ (without (loss f) p ≡ without (loss f) q))
+    × ((r s : Record f) (b c : List ℕ) → WritesAs f r b → WritesAs f s c → (b ≡ c) ↔ (r ≡ s))

@@ -2,8 +2,7 @@ pub mod Refusals
 pub mod Outcome
 pub mod Bytes
 pub mod Guards
-pub mod InOrder
-pub mod Table
 pub mod Writing
 pub mod Loss
 pub mod Form
+pub mod Prelude

@@ -1,6 +1,8 @@
 -- What a reader gives: a record or a refusal. Each answer enum is mapped to this type.
-use mathlib.Core.List.{List, []}
+use mathlib.Core.Bool.{cond}
+use mathlib.Core.List.{List, [], _∷_}
 use Prim.Native.Nat.{ℕ}
+use lib.Dec.{eqb}
 use Rattle.payload_util.specs.declared.Refusal.{Refusal}
 use Rattle.payload_util.specs.declared.Guard.{Guard}
 use Rattle.payload_util.specs.declared.Guard.the-variants.{Pass, Refused}
@@ -28,3 +30,8 @@ valueOr d (refuses e) = d
 abbrev pub tailWhere : Guard → List ℕ → List ℕ
 tailWhere Pass t = t
 tailWhere (Refused e) t = []
+
+-- a code table: the answer for the first code of the list whose byte is b, or else the other answer
+abbrev pub named : {C R : Type 0} → (C → ℕ) → (C → R) → R → List C → ℕ → R
+named byteOf found other [] b = other
+named byteOf found other (c ∷ cs) b = cond (eqb b (byteOf c)) (found c) (named byteOf found other cs b)

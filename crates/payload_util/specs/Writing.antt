@@ -10,25 +10,25 @@ use Rattle.payload_util.specs.declared.Guard.the-variants.{Pass, Refused
 use Rattle.payload_util.specs.declared.Written.{Written}
 use Rattle.payload_util.specs.declared.Written.the-variants.{Wrote, Refused as NotWritten}
 
-abbrev pub Left : Type 0
-Left = Written × List ℕ
+abbrev pub Effect : Type 0
+Effect = Written × List ℕ
 
 -- the bytes at the front of the buffer where all checks pass, and the buffer as it was where one refuses
-abbrev pub left : Guard → List ℕ → List ℕ → Left
-left Pass bytes out = (Wrote (length bytes), bytes ++ drop (length bytes) out)
-left (Refused e) bytes out = (NotWritten e, out)
+abbrev pub effect : Guard → List ℕ → List ℕ → Effect
+effect Pass bytes out = (Wrote (length bytes), bytes ++ drop (length bytes) out)
+effect (Refused e) bytes out = (NotWritten e, out)
 
 -- the kind's own checks come first, and room last
 abbrev pub roomLast : Guard → Guard → Guard
 roomLast own room = own also room
 
-abbrev pub write : Guard → ℕ → List ℕ → List ℕ → Left
-write own code bytes out = left (roomLast own (room code (length bytes) (length out))) bytes out
+abbrev pub putChecked : Guard → ℕ → List ℕ → List ℕ → Effect
+putChecked own code bytes out = effect (roomLast own (room code (length bytes) (length out))) bytes out
 
-abbrev pub put : ℕ → List ℕ → List ℕ → Left
-put code bytes out = write Pass code bytes out
+abbrev pub put : ℕ → List ℕ → List ℕ → Effect
+put code bytes out = putChecked Pass code bytes out
 
 -- a payload read, and its record written again
-abbrev pub rewrite : {A : Type 0} → Outcome A → (A → Left) → List ℕ → Left
+abbrev pub rewrite : {A : Type 0} → Outcome A → (A → Effect) → List ℕ → Effect
 rewrite (gives a) writes out = writes a
 rewrite (refuses e) writes out = (NotWritten e, out)

@@ -1,13 +1,17 @@
 // What every payload kind shares: the refusal, the guards of payload_util.rs, numbers of several bytes, and the end of every writer.
 ghost use mathlib.Core.Path.{_≡_};
+ghost use mathlib.Core.Bool.{_&&_};
 ghost use mathlib.Core.List.{_++_};
-ghost use Prim.Native.Nat.{_+_, _*_, _/_, _%_, _≤_};
+ghost use lib.Dec.{ltb, leb, eqb};
+ghost use Prim.Native.Nat.{_+_, _*_, _/_, _%_, _≤_, _<_};
 ghost use lib.ListN.{length, drop};
 ghost use lib.Seq.{paste};
-ghost use Rattle.payload_util.specs.Refusals.{row, check, refusalOf};
+ghost use Rattle.payload_util.specs.Refusals.{row, require, refusalOf};
+ghost use Rattle.payload_util.specs.Bytes.{byteAt, u16At, u32At, u32Bytes};
 ghost use Rattle.payload_util.specs.Outcome.{tailWhere};
-ghost use Rattle.payload_util.specs.Guards.{exactLen, atLeast, positiveMultipleOf, multipleOf, declaredLen, atMost, counts, room, present};
-ghost use Rattle.payload_util.specs.Writing.{write, put};
+ghost use Rattle.payload_util.specs.Guards.{exactLen, atLeast, positiveMultipleOf, multipleOf, declaredLen, headAndTail, atMost, tailLen, room, present};
+ghost use Rattle.payload_util.specs.Loss.{upTo, kept, keep, onlyAt};
+ghost use Rattle.payload_util.specs.Writing.{putChecked, put};
 
 // A row of the refusal table: its number, the payload's code byte, and the two values that the row names, else 0.
 pub struct Refusal {
@@ -48,7 +52,7 @@ impl Guard {
 
 // A row as a guard: passes where the test holds.
 pub fn require(holds: bool, number: u8, code: u8, first: usize, second: usize) -> Guard
-    ensures { λ r. ⌜ r ≡ check holds (row number code first second) ⌝ }
+    ensures { λ r. ⌜ r ≡ require holds (row number code first second) ⌝ }
 {
     if holds {
         return Guard::Pass;
@@ -75,26 +79,33 @@ pub fn require_at_least(payload: &[u8], min: usize, code: u8) -> Guard
     require(min <= payload.len(), 4, code, min, payload.len())
 }
 
+// Whether n is a whole number of blocks, and at least so many; a block of 0 makes none.
+fn in_blocks(least: usize, block: usize, n: usize) -> bool
+    ensures { λ r. ⌜ r ≡ (ltb 0 block && leb least n && eqb (n % block) 0) ⌝ }
+{
+    if block == 0 {
+        return false;
+    }
+    if n < least {
+        return false;
+    }
+    n % block == 0
+}
+
 // Row 5, of an empty payload too.
 pub fn require_positive_multiple_of(payload: &[u8], block: usize, code: u8) -> Guard
     ensures { λ r. ⌜ r ≡ positiveMultipleOf block code (now (payload .entry)) ⌝ }
 {
-    let some = require(0 < payload.len(), 5, code, block, payload.len());
-    let Guard::Pass = some else {
-        return some;
-    };
-    require_multiple_of(payload, block, code)
+    let n = payload.len();
+    require(in_blocks(1, block, n), 5, code, block, n)
 }
 
 // Row 5; a block of 0 is refused too.
 pub fn require_multiple_of(payload: &[u8], block: usize, code: u8) -> Guard
     ensures { λ r. ⌜ r ≡ multipleOf block code (now (payload .entry)) ⌝ }
 {
-    let blocks = require(0 < block, 5, code, block, payload.len());
-    let Guard::Pass = blocks else {
-        return blocks;
-    };
-    require(payload.len() % block == 0, 5, code, block, payload.len())
+    let n = payload.len();
+    require(in_blocks(0, block, n), 5, code, block, n)
 }
 
 // Row 6: the payload has as many bytes as its fields ask for.
@@ -102,6 +113,17 @@ pub fn require_declared_len(payload: &[u8], asked: usize, code: u8) -> Guard
     ensures { λ r. ⌜ r ≡ declaredLen asked code (now (payload .entry)) ⌝ }
 {
     require(payload.len() == asked, 6, code, 0, 0)
+}
+
+// Rows 4 and 6: the fixed fields, and a tail of as many bytes as they ask for.
+pub fn require_head_and_tail(payload: &[u8], head: usize, tail: u16, code: u8) -> Guard
+    ensures { λ r. ⌜ r ≡ headAndTail head tail code (now (payload .entry)) ⌝ }
+{
+    let fixed = require_at_least(payload, head, code);
+    let Guard::Pass = fixed else {
+        return fixed;
+    };
+    require_declared_len(payload, head + tail as usize, code)
 }
 
 // Row 12: a tail that is to be written has at most max bytes.
@@ -112,8 +134,8 @@ pub fn require_at_most(tail: &[u8], max: usize, code: u8) -> Guard
 }
 
 // Row 13: a tail that is to be written has as many bytes as the record's count asks for.
-pub fn require_count(tail: &[u8], asked: usize, code: u8) -> Guard
-    ensures { λ r. ⌜ r ≡ counts asked code (now (tail .entry)) ⌝ }
+pub fn require_tail_len(tail: &[u8], asked: usize, code: u8) -> Guard
+    ensures { λ r. ⌜ r ≡ tailLen asked code (now (tail .entry)) ⌝ }
 {
     require(tail.len() == asked, 13, code, 0, 0)
 }
@@ -125,48 +147,87 @@ pub fn require_room(needed: usize, code: u8, given: usize) -> Guard
     require(needed <= given, 15, code, needed, given)
 }
 
-// Row 16: a list has a record k.
-pub fn require_present(k: usize, count: usize, code: u8) -> Guard
-    ensures { λ r. ⌜ r ≡ present code k count ⌝ }
+// Row 16: a list has a record of this index.
+pub fn require_present(index: usize, count: usize, code: u8) -> Guard
+    ensures { λ r. ⌜ r ≡ present code index count ⌝ }
 {
-    require(k < count, 16, code, k, count)
+    require(index < count, 16, code, index, count)
+}
+
+// A row where the byte at an offset is above the highest.
+pub fn require_limit(payload: &[u8], offset: usize, highest: u8, number: u8, code: u8) -> Guard
+    ensures { λ r. ⌜ r ≡ require (leb (byteAt (now (payload .entry)) offset) highest) (row number code offset (byteAt (now (payload .entry)) offset)) ⌝ }
+{
+    let b = byte_at(payload, offset);
+    require(b <= highest, number, code, offset, b as usize)
+}
+
+// A byte up to the highest, and else 0.
+pub fn folded(b: u8, highest: u8) -> u8
+    ensures { λ r. ⌜ r ≡ kept (upTo highest) b ⌝ }
+{
+    if b <= highest {
+        return b;
+    }
+    0
+}
+
+// Folds the byte at an offset, and no other; past the end there is none.
+pub fn fold_at(out: &mut [u8], offset: usize, highest: u8)
+    ensures { λ _. ⌜ now (out .exit) ≡ keep (onlyAt offset highest) (now (out .entry)) ⌝ }
+{
+    if offset < out.len() {
+        out[offset] = folded(out[offset], highest);
+    }
 }
 
 // The bytes from an offset on; none where the payload ends before.
-pub fn tail_from(payload: &[u8], at: usize) -> &[u8]
-    ensures { λ r. ⌜ now r ≡ drop at (now (payload .entry)) ⌝ }
+pub fn tail_from(payload: &[u8], offset: usize) -> &[u8]
+    ensures { λ r. ⌜ now r ≡ drop offset (now (payload .entry)) ⌝ }
 {
-    if at <= payload.len() {
-        &payload[at..]
+    if offset <= payload.len() {
+        &payload[offset..]
     } else {
         &payload[..0]
     }
 }
 
 // The tail of a payload that passed its checks; of any other nothing.
-pub fn tail_where(checked: Guard, payload: &[u8], at: usize) -> &[u8]
-    ensures { λ r. ⌜ now r ≡ tailWhere checked (drop at (now (payload .entry))) ⌝ }
+pub fn tail_where(checked: Guard, payload: &[u8], offset: usize) -> &[u8]
+    ensures { λ r. ⌜ now r ≡ tailWhere checked (drop offset (now (payload .entry))) ⌝ }
 {
     let Guard::Pass = checked else {
         return &payload[..0];
     };
-    tail_from(payload, at)
+    tail_from(payload, offset)
 }
 
-// The number of two bytes, low byte first, and of two such numbers.
-pub fn u16_of(low: u8, high: u8) -> u16
-    ensures { λ r. ⌜ r ≡ low + 256 * high ⌝ }
+// The byte at an offset, and the numbers of two and of four bytes there, low byte first; a byte past the end is 0.
+pub fn byte_at(payload: &[u8], offset: usize) -> u8
+    ensures { λ r. ⌜ r ≡ byteAt (now (payload .entry)) offset ⌝ }
 {
-    (low as u16) + 256 * (high as u16)
+    if offset < payload.len() {
+        payload[offset]
+    } else {
+        0
+    }
 }
 
-pub fn u32_of(low: u16, high: u16) -> u32
-    ensures { λ r. ⌜ r ≡ low + 65536 * high ⌝ }
+pub fn u16_at(payload: &[u8], offset: usize) -> u16
+    ensures { λ r. ⌜ r ≡ u16At (now (payload .entry)) offset ⌝ }
 {
-    (low as u32) + 65536 * (high as u32)
+    let part = tail_from(payload, offset);
+    (byte_at(part, 0) as u16) + 256 * (byte_at(part, 1) as u16)
 }
 
-// The two bytes of a number, and the two halves of a longer one.
+pub fn u32_at(payload: &[u8], offset: usize) -> u32
+    ensures { λ r. ⌜ r ≡ u32At (now (payload .entry)) offset ⌝ }
+{
+    let part = tail_from(payload, offset);
+    (u16_at(part, 0) as u32) + 65536 * (u16_at(part, 2) as u32)
+}
+
+// The two bytes of a number, and the four of a longer one.
 pub fn low_byte(n: u16) -> u8
     ensures { λ r. ⌜ r ≡ n % 256 ⌝ }
 {
@@ -179,52 +240,96 @@ pub fn high_byte(n: u16) -> u8
     (n / 256) as u8
 }
 
-pub fn low_half(n: u32) -> u16
-    ensures { λ r. ⌜ r ≡ n % 65536 ⌝ }
+pub fn u32_bytes(n: u32) -> [u8; 4]
+    ensures { λ r. ⌜ r ≡ u32Bytes n ⌝ }
 {
-    (n % 65536) as u16
+    let low = (n % 65536) as u16;
+    let high = (n / 65536) as u16;
+    [
+        low_byte(low),
+        high_byte(low),
+        low_byte(high),
+        high_byte(high),
+    ]
 }
 
-pub fn high_half(n: u32) -> u16
-    ensures { λ r. ⌜ r ≡ n / 65536 ⌝ }
-{
-    (n / 65536) as u16
-}
-
-// The longest copy that goes through a block.
-const BLOCK: usize = 65536;
+// The longest piece of a copy.
+const BLOCK: usize = 2048;
 
 // Copies all of src into out from an offset on, byte by byte.
-fn copy_bytes(src: &[u8], out: &mut [u8], at: usize)
-    requires { ⌜ at + length (now src) ≤ length (now out) ⌝ }
-    ensures { λ _. ⌜ now (out .exit) ≡ paste (now (out .entry)) at (now (src .entry)) (length (now (src .entry))) ⌝ }
+fn copy_bytes(src: &[u8], out: &mut [u8], offset: usize)
+    requires { ⌜ offset + length (now src) ≤ length (now out) ⌝ }
+    ensures { λ _. ⌜ now (out .exit) ≡ paste (now (out .entry)) offset (now (src .entry)) (length (now (src .entry))) ⌝ }
 {
     let mut i = 0;
     while i < src.len() {
-        out[at + i] = src[i];
+        out[offset + i] = src[i];
         i += 1;
     }
 }
 
-// The same through a block. It overlaps neither src nor out, and so the compiler leaves it out and makes one memmove of both loops.
-fn copy_block(src: &[u8], out: &mut [u8], at: usize)
-    requires { ⌜ (length (now src) ≤ 65536) × (at + length (now src) ≤ length (now out)) ⌝ }
-    ensures { λ _. ⌜ now (out .exit) ≡ paste (now (out .entry)) at (now (src .entry)) (length (now (src .entry))) ⌝ }
+// The same through a block. It overlaps neither src nor out, and so the compiler leaves it out and makes one move of both loops: by registers
+// where it knows the length, and else by memmove.
+fn copy_block(src: &[u8], out: &mut [u8], offset: usize)
+    requires { ⌜ (length (now src) ≤ 2048) × (offset + length (now src) ≤ length (now out)) ⌝ }
+    ensures { λ _. ⌜ now (out .exit) ≡ paste (now (out .entry)) offset (now (src .entry)) (length (now (src .entry))) ⌝ }
 {
     let mut block = [0; BLOCK];
     copy_bytes(src, &mut block, 0);
-    copy_bytes(&block[..src.len()], out, at);
+    copy_bytes(&block[..src.len()], out, offset);
 }
 
-// The same, through a block where there is one that long.
-fn copy_at(src: &[u8], out: &mut [u8], at: usize)
-    requires { ⌜ at + length (now src) ≤ length (now out) ⌝ }
-    ensures { λ _. ⌜ now (out .exit) ≡ paste (now (out .entry)) at (now (src .entry)) (length (now (src .entry))) ⌝ }
+// The same of k to 2 k bytes: the first k, and then the last k, which meet or overlap.
+fn copy_ends(src: &[u8], out: &mut [u8], offset: usize, k: usize)
+    requires { ⌜ (k ≤ length (now src)) × (length (now src) ≤ 2 * k) × (k ≤ 32) × (offset + length (now src) ≤ length (now out)) ⌝ }
+    ensures { λ _. ⌜ now (out .exit) ≡ paste (now (out .entry)) offset (now (src .entry)) (length (now (src .entry))) ⌝ }
 {
-    if src.len() <= BLOCK {
-        copy_block(src, out, at);
+    let last = src.len() - k;
+    copy_block(&src[..k], out, offset);
+    copy_block(&src[last..], out, offset + last);
+}
+
+// Where the piece that starts at done ends, of n bytes.
+fn piece_end(done: usize, n: usize) -> usize
+    requires { ⌜ done < n ⌝ }
+    ensures { λ r. ⌜ (done < r) × (r ≤ n) × (r ≤ done + 2048) ⌝ }
+{
+    if n - done <= BLOCK { n } else { done + BLOCK }
+}
+
+// The same piece by piece.
+fn copy_pieces(src: &[u8], out: &mut [u8], offset: usize)
+    requires { ⌜ offset + length (now src) ≤ length (now out) ⌝ }
+    ensures { λ _. ⌜ now (out .exit) ≡ paste (now (out .entry)) offset (now (src .entry)) (length (now (src .entry))) ⌝ }
+{
+    let mut done = 0;
+    while done < src.len() {
+        let end = piece_end(done, src.len());
+        copy_block(&src[done..end], out, offset + done);
+        done = end;
+    }
+}
+
+// The same, and quick for a few bytes: the compiler knows each k.
+fn copy_at(src: &[u8], out: &mut [u8], offset: usize)
+    requires { ⌜ offset + length (now src) ≤ length (now out) ⌝ }
+    ensures { λ _. ⌜ now (out .exit) ≡ paste (now (out .entry)) offset (now (src .entry)) (length (now (src .entry))) ⌝ }
+{
+    let n = src.len();
+    if 64 < n {
+        copy_pieces(src, out, offset);
+    } else if 32 <= n {
+        copy_ends(src, out, offset, 32);
+    } else if 16 <= n {
+        copy_ends(src, out, offset, 16);
+    } else if 8 <= n {
+        copy_ends(src, out, offset, 8);
+    } else if 4 <= n {
+        copy_ends(src, out, offset, 4);
+    } else if 2 <= n {
+        copy_ends(src, out, offset, 2);
     } else {
-        copy_bytes(src, out, at);
+        copy_bytes(src, out, offset);
     }
 }
 
@@ -244,10 +349,26 @@ pub fn put_bytes(head: &[u8], tail: &[u8], code: u8, out: &mut [u8]) -> Written
 
 // The same after the checks of a kind.
 pub fn put_checked(checked: Guard, head: &[u8], tail: &[u8], code: u8, out: &mut [u8]) -> Written
-    ensures { λ r. ⌜ (r, now (out .exit)) ≡ write checked code (now (head .entry) ++ now (tail .entry)) (now (out .entry)) ⌝ }
+    ensures { λ r. ⌜ (r, now (out .exit)) ≡ putChecked checked code (now (head .entry) ++ now (tail .entry)) (now (out .entry)) ⌝ }
 {
     let Guard::Pass = checked else {
         return Written::Refused(checked.refusal());
     };
     put_bytes(head, tail, code, out)
+}
+
+// The same of a payload as it came, in one copy.
+pub fn put_payload(checked: Guard, payload: &[u8], code: u8, out: &mut [u8]) -> Written
+    ensures { λ r. ⌜ (r, now (out .exit)) ≡ putChecked checked code (now (payload .entry)) (now (out .entry)) ⌝ }
+{
+    let Guard::Pass = checked else {
+        return Written::Refused(checked.refusal());
+    };
+    let needed = payload.len();
+    let fits = require_room(needed, code, out.len());
+    let Guard::Pass = fits else {
+        return Written::Refused(fits.refusal());
+    };
+    copy_at(payload, out, 0);
+    Written::Wrote(needed)
 }

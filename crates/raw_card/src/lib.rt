@@ -2,22 +2,19 @@
 use payload_util::Guard;
 use payload_util::Refusal;
 use payload_util::Written;
+use payload_util::byte_at;
 use payload_util::high_byte;
 use payload_util::low_byte;
 use payload_util::put_checked;
-use payload_util::require_at_least;
-use payload_util::require_count;
-use payload_util::require_declared_len;
+use payload_util::put_payload;
+use payload_util::require_head_and_tail;
 use payload_util::require_room;
+use payload_util::require_tail_len;
 use payload_util::tail_where;
-use payload_util::u16_of;
-ghost use mathlib.Core.Path.{_≡_};
-ghost use mathlib.Core.List.{_++_};
-ghost use Prim.Native.Nat.{_*_, _≤_, min};
-ghost use lib.ListN.{length, take, drop};
-ghost use Rattle.payload_util.specs.Form.{normalised};
-ghost use Rattle.raw_card.specs.Raw.{bytesFor, checkRaw, rawOf, rawOutcome, readRaw, rawTail, writeRaw, rawForm, allBits, writeBits};
-ghost use Rattle.raw_card.specs.Fmt.{checkFmt, fmtOf, fmtOutcome, readFmt, fmtTail, writeFmt, fmtForm};
+use payload_util::u16_at;
+ghost use Rattle.payload_util.specs.Prelude.{_≡_, _++_, _*_, _≤_, min, length, take, drop, check, fields, read, tail, write, normalise};
+ghost use Rattle.raw_card.specs.Raw.{bytesFor, rawOutcome, raw, allBits, writeBits};
+ghost use Rattle.raw_card.specs.Fmt.{fmtOutcome, fmt};
 
 // The fixed fields; the bits are the tail.
 pub struct Raw {
@@ -32,10 +29,10 @@ pub enum RawRead {
 }
 
 // The bytes that so many bits take.
-fn bytes_for(bit_count: u16) -> usize
+fn bytes_for(bit_count: u16) -> u16
     ensures { λ r. ⌜ r ≡ bytesFor «bit_count» ⌝ }
 {
-    (bit_count as usize + 7) / 8
+    ((bit_count as u32 + 7) / 8) as u16
 }
 
 impl Raw {
@@ -44,21 +41,14 @@ impl Raw {
     pub const WIRE_LEN: usize = 4;
 
     pub fn check(p: &[u8]) -> Guard
-        ensures { λ r. ⌜ r ≡ checkRaw (now (p .entry)) ⌝ }
+        ensures { λ r. ⌜ r ≡ check raw (now (p .entry)) ⌝ }
     {
-        let fixed = require_at_least(p, Self::WIRE_LEN, Self::CODE);
-        let Guard::Pass = fixed else {
-            return fixed;
-        };
-        require_declared_len(
-            p,
-            Self::WIRE_LEN + bytes_for(u16_of(p[2], p[3])),
-            Self::CODE,
-        )
+        let tail = bytes_for(u16_at(p, 2));
+        require_head_and_tail(p, Self::WIRE_LEN, tail, Self::CODE)
     }
 
     pub fn decode(p: &[u8]) -> RawRead
-        ensures { λ r. ⌜ rawOutcome r ≡ readRaw (now (p .entry)) ⌝ }
+        ensures { λ r. ⌜ rawOutcome r ≡ read raw (now (p .entry)) ⌝ }
     {
         let checked = Self::check(p);
         let Guard::Pass = checked else {
@@ -69,28 +59,28 @@ impl Raw {
 
     fn fields(p: &[u8]) -> Raw
         requires { ⌜ 4 ≤ length (now p) ⌝ }
-        ensures { λ r. ⌜ r ≡ rawOf (now (p .entry)) ⌝ }
+        ensures { λ r. ⌜ r ≡ fields raw (now (p .entry)) ⌝ }
     {
         Raw {
             reader: p[0],
             format_code: p[1],
-            bit_count: u16_of(p[2], p[3]),
+            bit_count: u16_at(p, 2),
         }
     }
 
     // The bytes that hold the bits, those past the count as they came; nothing where reading refuses.
     pub fn bits(p: &[u8]) -> &[u8]
-        ensures { λ r. ⌜ now r ≡ rawTail (now (p .entry)) ⌝ }
+        ensures { λ r. ⌜ now r ≡ tail raw (now (p .entry)) ⌝ }
     {
         tail_where(Self::check(p), p, Self::WIRE_LEN)
     }
 
     pub fn encode(self, bits: &[u8], out: &mut [u8]) -> Written
-        ensures { λ r. ⌜ (r, now (out .exit)) ≡ writeRaw self (now (bits .entry)) (now (out .entry)) ⌝ }
+        ensures { λ r. ⌜ (r, now (out .exit)) ≡ write raw self (now (bits .entry)) (now (out .entry)) ⌝ }
     {
         let count = self.bit_count;
         put_checked(
-            require_count(bits, bytes_for(count), Self::CODE),
+            require_tail_len(bits, bytes_for(count) as usize, Self::CODE),
             &[
                 self.reader,
                 self.format_code,
@@ -105,9 +95,9 @@ impl Raw {
 
     // Reading loses nothing: an accepted payload is written as it came.
     pub fn normalise(p: &[u8], out: &mut [u8]) -> Written
-        ensures { λ r. ⌜ (r, now (out .exit)) ≡ normalised rawForm (now (p .entry)) (now (out .entry)) ⌝ }
+        ensures { λ r. ⌜ (r, now (out .exit)) ≡ normalise raw (now (p .entry)) (now (out .entry)) ⌝ }
     {
-        put_checked(Self::check(p), p, &[], Self::CODE, out)
+        put_payload(Self::check(p), p, Self::CODE, out)
     }
 
     // Writes a byte, 0 or 1, for each bit up to the count, highest bit first. Bytes too few for the count give the bits that they have.
@@ -128,7 +118,7 @@ impl Raw {
 fn bits_given(bit_count: u16, bytes: usize) -> usize
     ensures { λ r. ⌜ r ≡ min «bit_count» (8 * bytes) ⌝ }
 {
-    if bytes < bytes_for(bit_count) {
+    if bytes < bytes_for(bit_count) as usize {
         8 * bytes
     } else {
         bit_count as usize
@@ -176,17 +166,14 @@ impl Fmt {
     pub const WIRE_LEN: usize = 3;
 
     pub fn check(p: &[u8]) -> Guard
-        ensures { λ r. ⌜ r ≡ checkFmt (now (p .entry)) ⌝ }
+        ensures { λ r. ⌜ r ≡ check fmt (now (p .entry)) ⌝ }
     {
-        let fixed = require_at_least(p, Self::WIRE_LEN, Self::CODE);
-        let Guard::Pass = fixed else {
-            return fixed;
-        };
-        require_declared_len(p, Self::WIRE_LEN + p[2] as usize, Self::CODE)
+        let tail = byte_at(p, 2) as u16;
+        require_head_and_tail(p, Self::WIRE_LEN, tail, Self::CODE)
     }
 
     pub fn decode(p: &[u8]) -> FmtRead
-        ensures { λ r. ⌜ fmtOutcome r ≡ readFmt (now (p .entry)) ⌝ }
+        ensures { λ r. ⌜ fmtOutcome r ≡ read fmt (now (p .entry)) ⌝ }
     {
         let checked = Self::check(p);
         let Guard::Pass = checked else {
@@ -197,7 +184,7 @@ impl Fmt {
 
     fn fields(p: &[u8]) -> Fmt
         requires { ⌜ 3 ≤ length (now p) ⌝ }
-        ensures { λ r. ⌜ r ≡ fmtOf (now (p .entry)) ⌝ }
+        ensures { λ r. ⌜ r ≡ fields fmt (now (p .entry)) ⌝ }
     {
         Fmt {
             reader: p[0],
@@ -208,16 +195,16 @@ impl Fmt {
 
     // The characters; nothing where reading refuses.
     pub fn chars(p: &[u8]) -> &[u8]
-        ensures { λ r. ⌜ now r ≡ fmtTail (now (p .entry)) ⌝ }
+        ensures { λ r. ⌜ now r ≡ tail fmt (now (p .entry)) ⌝ }
     {
         tail_where(Self::check(p), p, Self::WIRE_LEN)
     }
 
     pub fn encode(self, chars: &[u8], out: &mut [u8]) -> Written
-        ensures { λ r. ⌜ (r, now (out .exit)) ≡ writeFmt self (now (chars .entry)) (now (out .entry)) ⌝ }
+        ensures { λ r. ⌜ (r, now (out .exit)) ≡ write fmt self (now (chars .entry)) (now (out .entry)) ⌝ }
     {
         put_checked(
-            require_count(chars, self.char_count as usize, Self::CODE),
+            require_tail_len(chars, self.char_count as usize, Self::CODE),
             &[self.reader, self.direction, self.char_count],
             chars,
             Self::CODE,
@@ -227,8 +214,8 @@ impl Fmt {
 
     // Reading loses nothing: an accepted payload is written as it came.
     pub fn normalise(p: &[u8], out: &mut [u8]) -> Written
-        ensures { λ r. ⌜ (r, now (out .exit)) ≡ normalised fmtForm (now (p .entry)) (now (out .entry)) ⌝ }
+        ensures { λ r. ⌜ (r, now (out .exit)) ≡ normalise fmt (now (p .entry)) (now (out .entry)) ⌝ }
     {
-        put_checked(Self::check(p), p, &[], Self::CODE, out)
+        put_payload(Self::check(p), p, Self::CODE, out)
     }
 }

@@ -7,15 +7,16 @@ use native.Mathlib.Omega.{arith}
 use lib.ListN.{length, drop}
 use Rattle.payload_util.specs.Refusals.{row}
 use Rattle.payload_util.specs.Outcome.{gives, guardOf, valueOr}
-use Rattle.payload_util.specs.Guards.{counted}
+use Rattle.payload_util.specs.Guards.{headAndTail}
 use Rattle.payload_util.specs.Bytes.{byteAt}
+use Rattle.payload_util.specs.Form.{check}
 use Rattle.payload_util.specs.declared.Guard.the-variants.{Pass}
-use Rattle.payload_util.proofs.Guards.{also-left, also-right, counted-pass, pass-most}
+use Rattle.payload_util.proofs.Guards.{also-left, also-right, head-and-tail-pass, pass-most}
 use Rattle.payload_util.proofs.Table.{exact, exact-value}
+use Rattle.payload_util.proofs.Parts.{by-head}
 use Rattle.payload_util.proofs.Scheme.{Law}
-use Rattle.payload_util.proofs.Forms.{tailed-law, by-head}
-use Rattle.text.specs.TextCommand.{textCode, textCommandByte, textCommands, readTextCommand}
-use Rattle.text.specs.Text.{printable, textShape, checkText, textOf, refuseText, textBytes, textForm, textLoss}
+use Rattle.payload_util.proofs.Forms.{tailed-law}
+use Rattle.text.specs.Text.{textCode, textCommandByte, textCommands, readTextCommand, printable, textShape, textKind}
 use Rattle.text.specs.declared.TextCommand.{TextCommand}
 use Rattle.text.specs.declared.TextCommand.the-variants.{PermanentNoWrap, PermanentWrap, TemporaryNoWrap, TemporaryWrap}
 
@@ -43,22 +44,22 @@ text-command-kept b = exact-value textCommandByte (row 9 textCode 0 0) textComma
 -- the fixed fields are there before the command is looked at
 pub shape-least : (p : List ℕ) → textShape p ≡ Pass → 6 ≤ length p
 unfolding textShape
-shape-least p g = counted-pass 6 textCode p (byteAt p 5) (search also-left) .0
+shape-least p g = head-and-tail-pass 6 textCode p (byteAt p 5) (search also-left) .0
 
-text-passes : (p : List ℕ) → checkText p ≡ Pass
-    → (counted 6 (byteAt p 5) textCode p ≡ Pass) × (printable (drop 6 p) ≡ Pass) × (guardOf (readTextCommand (byteAt p 1)) ≡ Pass)
-unfolding textShape checkText
+text-passes : (p : List ℕ) → check textKind p ≡ Pass
+    → (headAndTail 6 (byteAt p 5) textCode p ≡ Pass) × (printable (drop 6 p) ≡ Pass) × (guardOf (readTextCommand (byteAt p 1)) ≡ Pass)
+unfolding textShape
 text-passes p g = search (also-left, also-right)
 
-pub text-law : Law textCode textForm textLoss
+pub text-law : Law textKind
 text-law =
-    tailed-law checkText textOf (drop 6) refuseText textCode textBytes 6
+    tailed-law 6
     (λ p b g.
     let (whole, shown, command) = text-passes p g in
-    let (h, e) = counted-pass 6 textCode p (byteAt p 5) whole in
+    let (h, e) = head-and-tail-pass 6 textCode p (byteAt p 5) whole in
     by-head 6 p (λ q. q) h (simp (e, text-command-kept (byteAt p 1) command)))
     (λ p b g.
     let (whole, shown, command) = text-passes p g in
-    let short : length (drop 6 p) ≤ 255 = omega (arith, counted-pass 6 textCode p (byteAt p 5) whole .1, b 5) in
+    let short : length (drop 6 p) ≤ 255 = omega (arith, head-and-tail-pass 6 textCode p (byteAt p 5) whole .1, b 5) in
     simp (shown, pass-most 255 textCode (drop 6 p) short))
-    (λ t s w. simp text-command-back) (λ t s. refl)
+    (λ t s w. simp text-command-back) (λ t s. refl) (λ p g. g)

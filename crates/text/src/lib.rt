@@ -2,20 +2,16 @@
 use payload_util::Guard;
 use payload_util::Refusal;
 use payload_util::Written;
+use payload_util::byte_at;
 use payload_util::put_bytes;
-use payload_util::put_checked;
+use payload_util::put_payload;
 use payload_util::require;
-use payload_util::require_at_least;
 use payload_util::require_at_most;
-use payload_util::require_declared_len;
+use payload_util::require_head_and_tail;
 use payload_util::tail_from;
 use payload_util::tail_where;
-ghost use mathlib.Core.Path.{_≡_};
-ghost use Prim.Native.Nat.{_≤_};
-ghost use lib.ListN.{length};
-ghost use Rattle.payload_util.specs.Form.{normalised};
-ghost use Rattle.text.specs.TextCommand.{textCommandByte, textCommandOutcome, readTextCommand};
-ghost use Rattle.text.specs.Text.{printable, textShape, checkText, textWith, textOutcome, readText, textTail, writeText, textForm};
+ghost use Rattle.payload_util.specs.Prelude.{_≡_, _≤_, length, check, read, tail, write, normalise};
+ghost use Rattle.text.specs.Text.{textCommandByte, textCommandOutcome, readTextCommand, textOutcome, printable, textShape, textWith, textKind};
 
 // Table 21.
 pub enum TextCommand {
@@ -102,11 +98,8 @@ impl Text {
     fn shape(p: &[u8]) -> Guard
         ensures { λ r. ⌜ r ≡ textShape (now (p .entry)) ⌝ }
     {
-        let fixed = require_at_least(p, Self::WIRE_LEN, Self::CODE);
-        let Guard::Pass = fixed else {
-            return fixed;
-        };
-        let whole = require_declared_len(p, Self::WIRE_LEN + p[5] as usize, Self::CODE);
+        let tail = byte_at(p, 5) as u16;
+        let whole = require_head_and_tail(p, Self::WIRE_LEN, tail, Self::CODE);
         let Guard::Pass = whole else {
             return whole;
         };
@@ -114,7 +107,7 @@ impl Text {
     }
 
     pub fn check(p: &[u8]) -> Guard
-        ensures { λ r. ⌜ r ≡ checkText (now (p .entry)) ⌝ }
+        ensures { λ r. ⌜ r ≡ check textKind (now (p .entry)) ⌝ }
     {
         let shape = Self::shape(p);
         let Guard::Pass = shape else {
@@ -127,7 +120,7 @@ impl Text {
     }
 
     pub fn decode(p: &[u8]) -> TextRead
-        ensures { λ r. ⌜ textOutcome r ≡ readText (now (p .entry)) ⌝ }
+        ensures { λ r. ⌜ textOutcome r ≡ read textKind (now (p .entry)) ⌝ }
     {
         let shape = Self::shape(p);
         let Guard::Pass = shape else {
@@ -154,13 +147,13 @@ impl Text {
 
     // The text; nothing where reading refuses.
     pub fn text(p: &[u8]) -> &[u8]
-        ensures { λ r. ⌜ now r ≡ textTail (now (p .entry)) ⌝ }
+        ensures { λ r. ⌜ now r ≡ tail textKind (now (p .entry)) ⌝ }
     {
         tail_where(Self::check(p), p, Self::WIRE_LEN)
     }
 
     pub fn encode(self, text: &[u8], out: &mut [u8]) -> Written
-        ensures { λ r. ⌜ (r, now (out .exit)) ≡ writeText self (now (text .entry)) (now (out .entry)) ⌝ }
+        ensures { λ r. ⌜ (r, now (out .exit)) ≡ write textKind self (now (text .entry)) (now (out .entry)) ⌝ }
     {
         let shown = Self::validate_ascii(text);
         let Guard::Pass = shown else {
@@ -184,8 +177,8 @@ impl Text {
 
     // Reading loses nothing: an accepted payload is written as it came.
     pub fn normalise(p: &[u8], out: &mut [u8]) -> Written
-        ensures { λ r. ⌜ (r, now (out .exit)) ≡ normalised textForm (now (p .entry)) (now (out .entry)) ⌝ }
+        ensures { λ r. ⌜ (r, now (out .exit)) ≡ normalise textKind (now (p .entry)) (now (out .entry)) ⌝ }
     {
-        put_checked(Self::check(p), p, &[], Self::CODE, out)
+        put_payload(Self::check(p), p, Self::CODE, out)
     }
 }

@@ -1,13 +1,18 @@
 // Replays cases with their answers, from standard input, on the library, and says how many differ. README.md has the format.
 mod case;
-mod guard;
 mod stream;
-mod table;
 mod tally;
 
+use crate::stream::Taken;
 use crate::tally::Tally;
-use cases::Case;
+use vectors_case::Case;
 ghost use Prim.Native.Nat.{_≤_, _-_};
+
+// The class of the record that ends a stream, whose argument is the number of cases before it.
+const END: u8 = 255;
+
+// How many bytes a case's buffer has more than its input and its output.
+const MORE: usize = 256;
 
 // Runs a case whose input and output stand in the space.
 fn whole(t: Tally, c: Case, space: &[u8], out: &mut [u8]) -> Tally {
@@ -15,27 +20,37 @@ fn whole(t: Tally, c: Case, space: &[u8], out: &mut [u8]) -> Tally {
     let mid = c.mid;
     let end = c.end;
     if mid < at {
-        return t.broken();
+        return t.unfit();
     }
     if end < mid {
-        return t.broken();
+        return t.unfit();
     }
     if space.len() < end {
-        return t.broken();
+        return t.unfit();
     }
-    let o = case::run(c, &space[at..mid], &space[mid..end], out);
-    t.after(c, o)
+    let n = end - at + MORE;
+    if out.len() < n {
+        return t.unfit();
+    }
+    let is_same = case::run(c, &space[at..mid], &space[mid..end], &mut out[0..n]);
+    t.after(c, is_same)
 }
 
 // One case, one read, or the end.
 fn turn(t: Tally, space: &mut [u8], out: &mut [u8]) -> Tally {
-    let c = stream::take(&mut *space, t.from, t.to);
+    match stream::take(&mut *space, t.from, t.to) {
+        Taken::Case(c) => by_class(t, c, space, out),
+        Taken::Short => t.refilled(stream::refill(space, t.from, t.to)),
+        Taken::Unfit => t.unfit(),
+    }
+}
+
+fn by_class(t: Tally, c: Case, space: &[u8], out: &mut [u8]) -> Tally {
     let class = c.class;
     match class {
-        0..=cases::LAST => whole(t, c, space, out),
-        stream::SHORT => t.refilled(stream::refill(space, t.from, t.to)),
-        stream::END => t.ended(c),
-        _ => t.broken(),
+        0..=case::LAST => whole(t, c, space, out),
+        END => t.ended(c),
+        _ => t.unknown(class),
     }
 }
 
@@ -62,6 +77,6 @@ fn all(space: &mut [u8], out: &mut [u8]) -> Tally {
 
 fn main() {
     let mut space = [0u8; 393728];
-    let mut out = [0u8; 65796];
+    let mut out = [0u8; 131840];
     all(&mut space, &mut out).print();
 }

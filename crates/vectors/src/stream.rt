@@ -1,18 +1,19 @@
 // The stream of cases. One space holds the bytes that were read, up to BLOCKS, and after them the input and the output of a case.
-use cases::Case;
-use cases::put;
-ghost use Prim.Native.Nat.{_<_, _≤_, _+_};
+use vectors_case::Case;
+use vectors_case::put;
+use vectors_case::u32_at;
+ghost use Prim.Native.Nat.{_≤_};
 ghost use lib.ListN.{length};
 
 pub const BLOCKS: usize = 262144;
 
-// Classes that are no case: the record that ends a stream, whose argument is the number of cases before it; the beginning of a case, or
-// nothing; and what cannot be a case.
-pub const END: u8 = 255;
-
-pub const SHORT: u8 = 254;
-
-pub const BROKEN: u8 = 253;
+// What stands between two indices of the space: a case or the record that ends a stream; the beginning of one, or nothing; or what
+// does not fit into the space.
+pub enum Taken {
+    Case(Case),
+    Short,
+    Unfit,
+}
 
 // No index.
 const PAST: usize = 18446744073709551615;
@@ -21,20 +22,6 @@ const PAST: usize = 18446744073709551615;
 struct Number {
     value: usize,
     next: usize,
-}
-
-fn wide(b: u8) -> usize
-    ensures { λ r. ⌜ r < 256 ⌝ }
-{
-    b as usize
-}
-
-// The number of four bytes, low byte first.
-fn quad(s: &[u8], at: usize) -> usize
-    requires { ⌜ at + 4 ≤ length (now s) ⌝ }
-    ensures { λ r. ⌜ r < 4294967296 ⌝ }
-{
-    wide(s[at]) + 256 * wide(s[at + 1]) + 65536 * wide(s[at + 2]) + 16777216 * wide(s[at + 3])
 }
 
 // One byte below 255, or 255 and then eight bytes, low byte first. Where the stream ends before, no index is after it.
@@ -48,7 +35,7 @@ fn read_number(s: &[u8], at: usize) -> Number {
     let b = s[at];
     if b < 255 {
         return Number {
-            value: wide(b),
+            value: b as usize,
             next: at + 1,
         };
     }
@@ -59,7 +46,7 @@ fn read_number(s: &[u8], at: usize) -> Number {
         };
     }
     Number {
-        value: quad(s, at + 1) + 4294967296 * quad(s, at + 5),
+        value: (u32_at(s, at + 1) as usize) + 4294967296 * (u32_at(s, at + 5) as usize),
         next: at + 9,
     }
 }
@@ -101,6 +88,8 @@ fn read_head(s: &[u8]) -> Head
         second: second.value,
         mid: 0,
         end: 0,
+        room: 0,
+        fill: 0,
         size: sum(filled_out.next, sum(stored.value, stored_out.value)),
     };
     Head {
@@ -116,37 +105,34 @@ fn read_head(s: &[u8]) -> Head
 }
 
 // Takes the case that stands between two indices of the space, and puts its input and its output after BLOCKS.
-pub fn take(space: &mut [u8], from: usize, to: usize) -> Case {
-    if to < from {
-        return Case::none(BROKEN);
-    }
-    if space.len() < to {
-        return Case::none(BROKEN);
+pub fn take(space: &mut [u8], from: usize, to: usize) -> Taken {
+    if to < from || space.len() < to {
+        return Taken::Unfit;
     }
     if to - from < 5 {
-        return Case::none(SHORT);
+        return Taken::Short;
     }
     let h = read_head(&space[from..to]);
     let c = h.case;
     if to - from < c.size {
-        return Case::none(SHORT);
+        return Taken::Short;
     }
     unpack(space, sum(from, h.at), h)
 }
 
-fn unpack(space: &mut [u8], at: usize, h: Head) -> Case {
+fn unpack(space: &mut [u8], at: usize, h: Head) -> Taken {
     let mid = sum(BLOCKS, sum(h.stored, h.filled));
     let end = sum(mid, sum(h.stored_out, h.filled_out));
     if !block(&mut *space, at, h.stored, h.fill, BLOCKS, mid) {
-        return Case::none(BROKEN);
+        return Taken::Unfit;
     }
     if !block(space, sum(at, h.stored), h.stored_out, h.fill_out, mid, end) {
-        return Case::none(BROKEN);
+        return Taken::Unfit;
     }
     let mut c = h.case;
     c.mid = mid;
     c.end = end;
-    c
+    Taken::Case(c)
 }
 
 // Puts the bytes stored at an index between two others, and fills up. False where they do not fit.

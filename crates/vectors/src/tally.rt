@@ -1,8 +1,7 @@
 // What the cases came to, and where the stream stands.
-use cases::Case;
-use cases::Outcome;
 use std::num::wrapping_add_u64;
 use std::num::wrapping_add_usize;
+use vectors_case::Case;
 
 // How many of the cases that differ are named.
 const NAMED: u64 = 10;
@@ -10,7 +9,6 @@ const NAMED: u64 = 10;
 pub struct Tally {
     pub cases: u64,
     pub differ: u64,
-    pub skipped: u64,
     // cases since the stream began or a record of its end stood in it
     pub since: usize,
     // the unread bytes of the buffer: from one index up to another
@@ -25,7 +23,6 @@ impl Tally {
         Tally {
             cases: 0,
             differ: 0,
-            skipped: 0,
             since: 0,
             from: 0,
             to: 0,
@@ -34,10 +31,24 @@ impl Tally {
         }
     }
 
-    pub fn broken(mut self) -> Tally {
+    // Says what is wrong with the case after those that were run, and stops there.
+    pub fn broken(mut self, why: &[u8]) -> Tally {
+        io::write_all(1, b"broken at case ");
+        say(wrapping_add_u64(self.cases, 1), b": ");
+        io::write_all(1, why);
         self.is_done = true;
         self.is_broken = true;
         self
+    }
+
+    pub fn unfit(self) -> Tally {
+        self.broken(b"it does not fit\n")
+    }
+
+    pub fn unknown(self, class: u8) -> Tally {
+        let t = self.broken(b"class ");
+        say(class as u64, b" is unknown\n");
+        t
     }
 
     // After a read: the unread bytes stand at the front of the buffer. Where none came, the stream is at its end.
@@ -46,14 +57,16 @@ impl Tally {
         self.from = 0;
         self.to = unread;
         self.is_done = is_end;
-        self.is_broken = is_end && (0 < unread || 0 < self.since);
+        if is_end && (0 < unread || 0 < self.since) {
+            return self.broken(b"the stream ends before it, or in it\n");
+        }
         self
     }
 
     // After a record that ends a stream.
     pub fn ended(mut self, c: Case) -> Tally {
         if self.since != c.argument {
-            return self.broken();
+            return self.broken(b"the stream ends, and had another number of cases\n");
         }
         self.from = wrapping_add_usize(self.from, c.size);
         self.since = 0;
@@ -61,32 +74,26 @@ impl Tally {
     }
 
     // After one more case.
-    pub fn after(mut self, c: Case, o: Outcome) -> Tally {
+    pub fn after(mut self, c: Case, is_same: bool) -> Tally {
         self.from = wrapping_add_usize(self.from, c.size);
         self.cases = wrapping_add_u64(self.cases, 1);
         self.since = wrapping_add_usize(self.since, 1);
-        match o {
-            Outcome::Same => {}
-            Outcome::Skipped => {
-                self.skipped = wrapping_add_u64(self.skipped, 1);
-            }
-            Outcome::Differs => {
-                self.differ = wrapping_add_u64(self.differ, 1);
-                if self.differ <= NAMED {
-                    name(self.cases, c);
-                }
+        if !is_same {
+            self.differ = wrapping_add_u64(self.differ, 1);
+            if self.differ <= NAMED {
+                name(self.cases, c);
             }
         }
         self
     }
 
+    // A broken stream has no total.
     pub fn print(self) {
-        say(self.cases, b" cases, ");
-        say(self.differ, b" differ, ");
-        say(self.skipped, b" skipped\n");
         if self.is_broken {
-            io::write_all(1, b"the stream is broken\n");
+            return;
         }
+        say(self.cases, b" cases, ");
+        say(self.differ, b" differ\n");
     }
 }
 

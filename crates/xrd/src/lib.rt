@@ -3,14 +3,11 @@ use payload_util::Guard;
 use payload_util::Refusal;
 use payload_util::Written;
 use payload_util::put_bytes;
-use payload_util::put_checked;
+use payload_util::put_payload;
 use payload_util::require_at_least;
 use payload_util::tail_where;
-ghost use mathlib.Core.Path.{_≡_};
-ghost use Prim.Native.Nat.{_≤_};
-ghost use lib.ListN.{length};
-ghost use Rattle.payload_util.specs.Form.{normalised};
-ghost use Rattle.xrd.specs.Xrd.{checkXrd, xrdOf, xrdOutcome, readXrd, xrdTail, writeXrd, xrdForm};
+ghost use Rattle.payload_util.specs.Prelude.{_≡_, _≤_, length, check, fields, read, tail, write, normalise};
+ghost use Rattle.xrd.specs.Xrd.{xrdOutcome, xrd};
 
 // The fixed field: XRW_MODE. The mode's reply is the tail.
 pub struct Xrd {
@@ -28,13 +25,13 @@ impl Xrd {
     pub const WIRE_LEN: usize = 1;
 
     pub fn check(p: &[u8]) -> Guard
-        ensures { λ r. ⌜ r ≡ checkXrd (now (p .entry)) ⌝ }
+        ensures { λ r. ⌜ r ≡ check xrd (now (p .entry)) ⌝ }
     {
         require_at_least(p, Self::WIRE_LEN, Self::CODE)
     }
 
     pub fn decode(p: &[u8]) -> XrdRead
-        ensures { λ r. ⌜ xrdOutcome r ≡ readXrd (now (p .entry)) ⌝ }
+        ensures { λ r. ⌜ xrdOutcome r ≡ read xrd (now (p .entry)) ⌝ }
     {
         let checked = Self::check(p);
         let Guard::Pass = checked else {
@@ -45,28 +42,28 @@ impl Xrd {
 
     fn fields(p: &[u8]) -> Xrd
         requires { ⌜ 1 ≤ length (now p) ⌝ }
-        ensures { λ r. ⌜ r ≡ xrdOf (now (p .entry)) ⌝ }
+        ensures { λ r. ⌜ r ≡ fields xrd (now (p .entry)) ⌝ }
     {
         Xrd { mode: p[0] }
     }
 
     // The mode's reply: its sub-reply code and data; nothing where reading refuses.
     pub fn payload(p: &[u8]) -> &[u8]
-        ensures { λ r. ⌜ now r ≡ xrdTail (now (p .entry)) ⌝ }
+        ensures { λ r. ⌜ now r ≡ tail xrd (now (p .entry)) ⌝ }
     {
         tail_where(Self::check(p), p, Self::WIRE_LEN)
     }
 
     pub fn encode(self, payload: &[u8], out: &mut [u8]) -> Written
-        ensures { λ r. ⌜ (r, now (out .exit)) ≡ writeXrd self (now (payload .entry)) (now (out .entry)) ⌝ }
+        ensures { λ r. ⌜ (r, now (out .exit)) ≡ write xrd self (now (payload .entry)) (now (out .entry)) ⌝ }
     {
         put_bytes(&[self.mode], payload, Self::CODE, out)
     }
 
     // Reading loses nothing: an accepted payload is written as it came.
     pub fn normalise(p: &[u8], out: &mut [u8]) -> Written
-        ensures { λ r. ⌜ (r, now (out .exit)) ≡ normalised xrdForm (now (p .entry)) (now (out .entry)) ⌝ }
+        ensures { λ r. ⌜ (r, now (out .exit)) ≡ normalise xrd (now (p .entry)) (now (out .entry)) ⌝ }
     {
-        put_checked(Self::check(p), p, &[], Self::CODE, out)
+        put_payload(Self::check(p), p, Self::CODE, out)
     }
 }

@@ -7,6 +7,5 @@ pub moved-at-spec : {M : Type 1} → statement M
 moved-at-spec =
     tie.close
     (tie.spec
-    (λ c κs. search needs)
-    (λ c κs. search needs)
-    (λ c. simp (c .place-after .ensures, c .before .decode-at .ensures)))
+    (λ c κs. search needs) (λ c κs. search needs)
+    (λ c. simp (c .offset-after .ensures, c .before .decode-at .ensures)))

@@ -68,7 +68,7 @@ module _ {M : Type 1} (𝓤 : URA M) (H : Heap 𝓤) (A : Atoms 𝓤) (W : Given
   goes = qed W ((‵ (flft κ q) ⊛ ‵ ftrue) ∷ ‵ (owns (ShrSlice (named 0) κ u8 ∷ []) (s, tt) (v ∷ [], tt)) ∷ []) ∵ join ! $ frame ! $ done !
 
   abbrev Said : LedStart → Type 0
-  Said d = _≡_ {A = List ℕ × ℕ × Guard} (now (d .payload), d .at, d .checked) (startLed (now s))
+  Said d = _≡_ {A = List ℕ × ℕ × Guard} (now (d .payload), d .offset, d .checked) (startLed (now s))
 
   said : (d : LedStart) → ent 𝓤 (ensured 𝓤 H A start.ended (start.clauses 𝓤 H A mem run) (κ, tt) (s, tt) tt d) (fact 𝓤 (Said d))
   said d = exE 𝓤 _ (λ ws. snd∗ 𝓤 (sem 𝓤 H A (lasts start.ended (κ, tt) (s, tt) ws)) (fact 𝓤 (Said d)))
@@ -77,23 +77,23 @@ module _ {M : Type 1} (𝓤 : URA M) (H : Heap 𝓤) (A : Atoms 𝓤) (W : Given
   len d = length (now (d .payload))
 
   abbrev made : LedStart → LedStarted
-  made d = record { len = len d; at = d .at; checked = d .checked }
+  made d = record { len = len d; offset = d .offset; checked = d .checked }
 
   abbrev Told : Guard → Type 0
   Told g = Is G.the-row g (EL.vals G.the-type G′.the-laws g)
 
-  exits : (d : LedStart) → Said d → len d < 2 ^ 64 → d .at < 2 ^ 64 → Told (d .checked)
+  exits : (d : LedStart) → Said d → len d < 2 ^ 64 → d .offset < 2 ^ 64 → Told (d .checked)
       → ent 𝓤 (⋆ 𝓤 H A ((‵ (flft κ q) ⊛ ‵ ftrue) ∷ [])) (Post (LL.val R.the-type R′.the-laws (made d)))
   exits d e short fits is =
       qed W ((‵ (flft κ q) ⊛ ‵ ftrue) ∷ []) ∵
       suffices ! _ (ends-at 𝓤 H A this.ended stayed (this.clauses 𝓤 H A mem run) W (((κ, tt), (q, tt), tt, (s, tt), (v ∷ [], tt)), tt)
       (LL.val R.the-type R′.the-laws (made d)) (made d) (tt, tt) (tt, tt)) $
-      says ! (ap (λ (y : List ℕ × ℕ × Guard). record { len = length (y .0); at = y .1; checked = y .2 }) e) $
+      says ! (ap (λ (y : List ℕ × ℕ × Guard). record { len = length (y .0); offset = y .1; checked = y .2 }) e) $
       frame ! $ nothing ! $ nothing ! $ fjoin ! $ frame ! $
       nothing ! $ owned ! G.the-row (Is G.the-row) (EL.makes G.the-type G′.the-plain 𝓤 H A) (d .checked) _ is $ fjoin ! $
-      owned ! usize (Is usize) (uint-makes 𝓤 H A W w64) (d .at) _ (refl, fits) $ fjoin ! $
+      owned ! usize (Is usize) (uint-makes 𝓤 H A W w64) (d .offset) _ (refl, fits) $ fjoin ! $
       owned ! usize (Is usize) (uint-makes 𝓤 H A W w64) (len d) _ (refl, short) $ fjoin ! $
-      by ! (own-shut 𝓤 H A W R.the-type R′.the-laws (len d, (d .at, (d .checked, tt))))
+      by ! (own-shut 𝓤 H A W R.the-type R′.the-laws (len d, (d .offset, (d .checked, tt))))
 
   module _ (C : Calls 𝓤 H) (Λ : Loops 𝓤 H) (fm : FmC 𝓤 H (W .laws) C) (known : Triple 𝓤 (C #start) (Start 𝓤 H A mem run)) where
     walk : Is (ShrSlice (named 0) κ u8) s (v ∷ [])
@@ -112,7 +112,7 @@ module _ {M : Type 1} (𝓤 : URA M) (H : Heap 𝓤) (A : Atoms 𝓤) (W : Given
         peeks ! Given′ (Is Given′) (shows 𝓤 H A Given′) d (u ∷ []) (λ was.
         let held = LL.owed D L d (u ∷ []) was in
         let short : len d < 2 ^ 64 = held .0 .0 .1 .0 in
-        let fits : d .at < 2 ^ 64 = held .1 .0 .1 in
+        let fits : d .offset < 2 ^ 64 = held .1 .0 .1 in
         let is : Told (d .checked) = held .1 .1 .0 in
         land ! (from ! (stop !)) (init ! 8 refl (LL.lawful D L 𝓤 H A W .typed d _ was .0)) $
         rewrite ! 8 (λ (w : Val). ‵ (fat fullShare (T′.mir erased) l₂ 0 w)) (ap only (LL.tells D L d (u ∷ []) was)) refl $ drop ! $

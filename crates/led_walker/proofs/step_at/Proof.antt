@@ -54,7 +54,7 @@ module _ {M : Type 1} (𝓤 : URA M) (H : Heap 𝓤) (A : Atoms 𝓤) (W : Given
 
   -- the walker, its machine value, and its type as a local of a body has it
   abbrev d : LedWalker
-  d = record { payload = s; at = n }
+  d = record { payload = s; offset = n }
 
   abbrev mach : Val
   mach = T′.lowered d
@@ -115,19 +115,19 @@ module _ {M : Type 1} (𝓤 : URA M) (H : Heap 𝓤) (A : Atoms 𝓤) (W : Given
   Stepped t z = _≡_ {A = LedStep × LedWalker} (t, z) (stepped d)
 
   abbrev made : LedStep → ℕ → LedMoved
-  made t m = record { step = t; at = m }
+  made t m = record { step = t; offset = m }
 
-  exits : (t : LedStep) (z : LedWalker) → Stepped t z → z .at < 2 ^ 64 → Is S.the-row t (EL.vals S.the-type S′.the-laws t)
-      → ent 𝓤 (⋆ 𝓤 H A ((‵ (flft κ q) ⊛ ‵ ftrue) ∷ [])) (Post (LL.val R.the-type R′.the-laws (made t (z .at))))
+  exits : (t : LedStep) (z : LedWalker) → Stepped t z → z .offset < 2 ^ 64 → Is S.the-row t (EL.vals S.the-type S′.the-laws t)
+      → ent 𝓤 (⋆ 𝓤 H A ((‵ (flft κ q) ⊛ ‵ ftrue) ∷ [])) (Post (LL.val R.the-type R′.the-laws (made t (z .offset))))
   exits t z e fits is =
       qed W ((‵ (flft κ q) ⊛ ‵ ftrue) ∷ []) ∵
       suffices ! _ (ends-at 𝓤 H A this.ended stayed (this.clauses 𝓤 H A mem run) W (((κ, tt), (q, tt), tt, (s, (n, tt)), vals), tt)
-      (LL.val R.the-type R′.the-laws (made t (z .at))) (made t (z .at)) (tt, (tt, tt)) (tt, (tt, tt))) $
-      says ! (ap (λ (y : LedStep × LedWalker). made (y .0) (y .1 .at)) e) $
+      (LL.val R.the-type R′.the-laws (made t (z .offset))) (made t (z .offset)) (tt, (tt, tt)) (tt, (tt, tt))) $
+      says ! (ap (λ (y : LedStep × LedWalker). made (y .0) (y .1 .offset)) e) $
       frame ! $ nothing ! $ nothing ! $ fjoin ! $ nothing ! $ fjoin ! $ frame ! $
-      nothing ! $ owned ! usize (Is usize) (uint-makes 𝓤 H A W w64) (z .at) _ (refl, fits) $ fjoin ! $
+      nothing ! $ owned ! usize (Is usize) (uint-makes 𝓤 H A W w64) (z .offset) _ (refl, fits) $ fjoin ! $
       owned ! S.the-row (Is S.the-row) (EL.makes S.the-type S′.the-plain 𝓤 H A) t _ is $ fjoin ! $
-      by ! (own-shut 𝓤 H A W R.the-type R′.the-laws (t, (z .at, tt)))
+      by ! (own-shut 𝓤 H A W R.the-type R′.the-laws (t, (z .offset, tt)))
 
   module _ (C : Calls 𝓤 H) (Λ : Loops 𝓤 H) (fm : FmC 𝓤 H (W .laws) C) (known : Triple 𝓤 (C #next) (Next 𝓤 H A mem run)) where
     walk : Is (ShrSlice (named 0) κ u8) s (v ∷ [])
@@ -186,8 +186,8 @@ module _ {M : Type 1} (𝓤 : URA M) (H : Heap 𝓤) (A : Atoms 𝓤) (W : Given
         (init ! 2 refl (tt, record { fits = fits })) $
         assigns ! (agg ! (and-then ! (load ! (from ! (stop !)) (look ! 6 refl)) (and-then ! (load ! (from ! (stop !)) (look ! 2 refl)) (no-more !))))
         (from ! (stop !))
-        (init ! 13 refl (LL.lawful R.the-type R′.the-laws 𝓤 H A W .typed (made t (z .0 .at)) _
-        (LL.owes R.the-type R′.the-laws (made t (z .0 .at)) (is′, ((refl, fits), tt))) .0)) $
+        (init ! 13 refl (LL.lawful R.the-type R′.the-laws 𝓤 H A W .typed (made t (z .0 .offset)) _
+        (LL.owes R.the-type R′.the-laws (made t (z .0 .offset)) (is′, ((refl, fits), tt))) .0)) $
         returns ! (look ! 13 refl) $ forget ! 1 refl $ forget ! 2 refl $ forget ! 4 refl $ forget ! 6 refl $ forget ! 9 refl $ forget ! 11 refl $
         forget ! 13 refl $
         move ! (13 ∷ 14 ∷ []) $ free1 ! $ move ! (11 ∷ 12 ∷ []) $ free1 ! $ move ! (9 ∷ 10 ∷ []) $ free1 ! $ move ! (1 ∷ 8 ∷ []) $ free1 ! $

@@ -1,7 +1,6 @@
 -- `BioMatch::decode` meets its contract. Assumes nothing.
-use borrow.Author.Needs.{needs}
-use Rattle.biometric.specs.Biometric.{bioMatchCode}
 use Rattle.biometric.proofs.Laws.{wrapped, handed-on}
+use borrow.Author.Needs.{needs}
 use Rattle.biometric.proofs.BioMatch.decode.Statement.{statement}
 use Rattle.biometric.proofs.BioMatch.decode.Tie as tie
 
@@ -9,8 +8,6 @@ pub decode-spec : {M : Type 1} → statement M
 decode-spec =
     tie.close
     (tie.spec
-    (λ c κs. search needs)
-    (λ c. search needs)
-    (λ c. search needs)
-    (λ c. wrapped (λ h. record { head = h }) bioMatchCode _ (c .before .before .before .decode-template .ensures) (c .before .head .given .1))
-    (λ c. handed-on (λ h. record { head = h }) bioMatchCode _ (c .before .before .before .decode-template .ensures) (c .before .e .given .1)))
+    (λ c κs. search needs) (λ c. search needs) (λ c. search needs)
+    (λ c. wrapped (λ h. record { head = h }) _ _ (c .before .before .before .decode-template .ensures) (c .before .head .given .1))
+    (λ c. handed-on (λ h. record { head = h }) _ _ (c .before .before .before .decode-template .ensures) (c .before .e .given .1)))

@@ -1,49 +1,49 @@
 -- `LedRecord::normalise` meets its contract. Assumes nothing.
-use mathlib.Core.Path.{_≡_, ap, _∙_}
-use mathlib.Core.List.{List}
-use Prim.Native.Nat.{ℕ, _/_}
-use borrow.Author.Needs.{needs}
+use mathlib.Core.Path.{refl}
+use mathlib.Core.List.{[]}
+use Prim.Native.Nat.{_/_}
+use native.Mathlib.Omega.{arith}
 use lib.ListN.{length}
-use denote.Ref.{now}
-use Rattle.payload_util.specs.Writing.{Left}
-use Rattle.payload_util.specs.declared.Guard.the-variants.{Pass}
-use Rattle.payload_util.proofs.Guards.{passed, refused}
-use Rattle.lists.specs.List.{listAnswer}
-use Rattle.led.specs.Led.{ledCode, checkLed}
-use Rattle.led.proofs.Rewritten.{refused-is, records-fit, written-is}
+use Rattle.payload_util.specs.Loss.{limits, without}
+use Rattle.payload_util.specs.Form.{loss}
+use Rattle.payload_util.proofs.Scheme.{normalises}
+use Rattle.payload_util.proofs.Folds.{length-times, put-front, folds, refuses-all}
+use Rattle.led.specs.Led.{highestColor, ledCode, ledLimits, leds}
+use Rattle.led.proofs.Laws.{led-law}
+use borrow.Author.Needs.{needs}
 use Rattle.led.proofs.LedRecord.normalise.Statement.{statement}
 use Rattle.led.proofs.LedRecord.normalise.Tie as tie
-
-pass : (c : tie.After-enum-told) → checkLed (now (c .before .before .before .before .before .args .p)) ≡ Pass
-pass c = passed (c .before .before .check .ensures) (c .enum-told .given .1)
-
--- the count is the payload's
-said : (c : tie.After-list-answer) →
-    let a = c .before .before .before .before .before .before .before .args in
-    c .list-answer .result ≡ listAnswer (length (now (a .p)) / 14) 14 ledCode (length (now (a .out)))
-said c = c .list-answer .ensures ∙ rw (c .before .count .ensures)
 
 pub normalise-spec : {M : Type 1} → statement M
 normalise-spec =
     tie.close
     (tie.spec
-    (λ c κs. search needs)
-    (λ c. search needs)
-    (λ c. search needs)
-    (λ c κs. search needs)
-    (λ c. simp (refused (c .before .before .before .check .ensures) (c .before .enum-told2 .given .1) (c .refusal .ensures)))
-    (λ c κs. search needs)
-    (λ c κs. search needs)
-    (λ c. search needs)
-    (λ c. search needs)
-    (λ c. refused-is _ _ (pass (c .before .before .before .before)) (said (c .before .before)) (c .enum-told4 .given .1))
+    (λ c κs. search needs) (λ c κs. search needs) (λ c. search needs) (λ c. search needs) (λ c. search needs)
+    (λ c.
+    let put = c .before .before .before .before in
+    let checked = put .before .before in
+    let known = checked .before .before in
+    let a = known .before .args in
+    normalises leds led-law (a .p .now) (a .out .now) (without (loss leds) (a .p .now)) (checked .check .result)
+    (λ i. omega (arith, known .shared-slice-known .given i))
+    (refuses-all (checked .check .result) ledCode (limits (loss leds) (a .p .now)) (a .p .now) (a .out .now) (put .put-payload .ensures)
+    (c .enum-told .given .1)) (checked .check .ensures) refl)
     (λ c κs.
-    let asked = c .before .before .before in
-    let a = asked .before .before .before .before .before .before .before .args in
-    records-fit _ (now (a .out)) (pass (asked .before .before)) (said asked) (c .before .enum-told3 .given .1))
+    let told = c .before .before in
+    let put = told .before .before .before .before in
+    let checked = put .before .before in
+    let a = checked .before .before .before .args in
+    put-front (checked .check .result) ledCode [] (a .p .now) (a .out .now) (put .put-payload .ensures) (told .written .given .1))
     (λ c. search needs)
     (λ c.
-    let told = c .before .before .before .before in
-    let asked = told .before .before in
-    ap (λ (o : List ℕ). (asked .list-answer .result, o)) (c .before .before .rewrite .ensures)
-    ∙ written-is _ _ (pass (asked .before .before)) (said asked) (told .enum-told3 .given .1)))
+    let told = c .before .before .before .before .before in
+    let put = told .before .before .before .before in
+    let checked = put .before .before in
+    let known = checked .before .before in
+    let a = known .before .args in
+    normalises leds led-law (a .p .now) (a .out .now) (without (loss leds) (a .p .now)) (checked .check .result)
+    (λ i. omega (arith, known .shared-slice-known .given i))
+    (rw (c .before .before .fold-all .ensures, ← told .written .given .1)
+    (folds (checked .check .result) ledCode (limits (loss leds) (a .p .now)) (a .p .now) (a .out .now) (put .put-payload .ensures)
+    (told .written .given .1) (λ e. omega (arith, length-times (length (a .p .now) / 14) (ledLimits highestColor)))))
+    (checked .check .ensures) refl))

@@ -84,32 +84,32 @@ module _ {M : Type 1} (𝓤 : URA M) (H : Heap 𝓤) (A : Atoms 𝓤) (W : Given
 
   -- what the callee is passed
   abbrev args : RefT (List ℕ) × (ℕ × Unit {0})
-  args = (h .payload, (h .at, tt))
+  args = (h .payload, (h .offset, tt))
 
   abbrev to : MovedAt 𝓤 H A at-mem run .Ghost
   to = (((κ′, tt), (q′, tt), tt, args, passed h), tt)
 
-  goes : h .at < 2 ^ 64
+  goes : h .offset < 2 ^ 64
       → ent 𝓤 (⋆ 𝓤 H A ((‵ (flft κ′ q′) ⊛ ‵ ftrue) ∷ ‵ Own ∷ [])) (sep 𝓤 (MovedAt 𝓤 H A at-mem run .pre to) (sem 𝓤 H A Own))
   goes ok =
       apart 𝓤 H A W (α κ′) h q′ ok _
       (qed W ((‵ (flft κ′ q′) ⊛ ‵ ftrue) ∷ ‵ (owns (ShrSlice (named 0) κ′ u8 ∷ usize ∷ []) args (passed h)) ∷ []) ∵ join ! $ frame ! $ done !)
 
   abbrev Moved : LedMoved → Type 0
-  Moved r = r ≡ movedLed (now (h .payload)) (h .at)
+  Moved r = r ≡ movedLed (now (h .payload)) (h .offset)
 
   said : (r : LedMoved) → ent 𝓤 (ensured 𝓤 H A mv.ended (mv.clauses 𝓤 H A at-mem run) (κ′, tt) args tt r) (fact 𝓤 (Moved r))
   said r = exE 𝓤 _ (λ ws. snd∗ 𝓤 (sem 𝓤 H A (lasts mv.ended (κ′, tt) args ws)) (fact 𝓤 (Moved r)))
 
   exits : (r : LedMoved) → Moved r → Is S.the-row (r .step) (EL.vals S.the-type S′.the-laws (r .step))
-      → ent 𝓤 (sep 𝓤 (A .obs γ (B κ′ .coded .code (moved h (r .at)))) (sep 𝓤 (A .bor κ (Body (mem (B κ′)) b o γ))
+      → ent 𝓤 (sep 𝓤 (A .obs γ (B κ′ .coded .code (moved h (r .offset)))) (sep 𝓤 (A .bor κ (Body (mem (B κ′)) b o γ))
       (sep 𝓤 (A .lft κ q) (sep 𝓤 (A .lft κ′ q′) (emp 𝓤))))) (Post (EL.val S.the-type S′.the-laws (r .step)))
   exits r e is =
-      qed W (‵ (fobs γ (B κ′ .coded .code (moved h (r .at)))) ∷ ‵ (fbor κ (Body (mem (B κ′)) b o γ)) ∷ ‵ (flft κ q)
+      qed W (‵ (fobs γ (B κ′ .coded .code (moved h (r .offset)))) ∷ ‵ (fbor κ (Body (mem (B κ′)) b o γ)) ∷ ‵ (flft κ q)
       ∷ (‵ (flft κ′ q′) ⊛ ‵ ftrue) ∷ []) ∵
       suffices ! _ (ends-at 𝓤 H A next.ended stayed (next.clauses 𝓤 H A at-mem run) W (((κ, (κ′, tt)), (q, (q′, tt)), bounds, x, vals), tt)
-      (EL.val S.the-type S′.the-laws (r .step)) (r .step) (moved h (r .at), tt) (tt, tt)) $
-      says ! (ap (λ (m : LedMoved). (m .step, moved h (m .at))) e) $ move ! (2 ∷ 3 ∷ []) $ join ! $
+      (EL.val S.the-type S′.the-laws (r .step)) (r .step) (moved h (r .offset), tt) (tt, tt)) $
+      says ! (ap (λ (m : LedMoved). (m .step, moved h (m .offset))) e) $ move ! (2 ∷ 3 ∷ []) $ join ! $
       frame ! $ feqI ! (List Val) (vptr b o ∷ []) (vptr b o ∷ []) refl $ fjoin3 ! $ nothing ! $ move ! (1 ∷ 0 ∷ []) $ fjoin ! $
       owned ! S.the-row (Is S.the-row) (EL.makes S.the-type S′.the-plain 𝓤 H A) (r .step) _ is $ move ! (1 ∷ 0 ∷ []) $ done !
 
@@ -147,11 +147,11 @@ module _ {M : Type 1} (𝓤 : URA M) (H : Heap 𝓤) (A : Atoms 𝓤) (W : Given
         assigns ! (of-opd ! (load ! (from ! (fld ! refl (stop !))) (look-in ! 11 (sub ! 0 refl (whole !))))) (from ! (stop !))
         (init ! 15 refl (EL.lawful S.the-type S′.the-laws 𝓤 H A W tt .typed (r .step) _ (fields .0) .0)) $
         move ! (1 ∷ []) $
-        use1 W (‵ (B κ′ .own (moved h (r .at)) (T′.lowered (moved h (r .at)) ∷ []))) (placed 𝓤 H A W (α κ′) h (r .at) (fields .1 .0 .1)) $
+        use1 W (‵ (B κ′ .own (moved h (r .offset)) (T′.lowered (moved h (r .offset)) ∷ []))) (placed 𝓤 H A W (α κ′) h (r .offset) (fields .1 .0 .1)) $
         move ! (2 ∷ []) $
-        use1 W (‵ (cellAt fullShare (B κ′ .mir) (T′.lowered (moved h (r .at)) ∷ []) b o))
-        (W .laws .at-raw fullShare (T′.mir erased) b o (T′.lowered (moved h (r .at)))) $
-        move ! (0 ∷ 1 ∷ 3 ∷ 4 ∷ 5 ∷ []) $ closes ! tt (B κ′) (moved h (r .at)) (T′.lowered (moved h (r .at)) ∷ []) b o $
+        use1 W (‵ (cellAt fullShare (B κ′ .mir) (T′.lowered (moved h (r .offset)) ∷ []) b o))
+        (W .laws .at-raw fullShare (T′.mir erased) b o (T′.lowered (moved h (r .offset)))) $
+        move ! (0 ∷ 1 ∷ 3 ∷ 4 ∷ 5 ∷ []) $ closes ! tt (B κ′) (moved h (r .offset)) (T′.lowered (moved h (r .offset)) ∷ []) b o $
         returns ! (look ! 13 refl) $ forget ! 5 refl $ forget ! 7 refl $ forget ! 9 refl $ forget ! 11 refl $ forget ! 13 refl $
         move ! (13 ∷ 14 ∷ []) $ free1 ! $ move ! (11 ∷ 12 ∷ []) $ free1 ! $ move ! (9 ∷ 10 ∷ []) $ free1 ! $ move ! (7 ∷ 8 ∷ []) $ free1 ! $
         move ! (5 ∷ 6 ∷ []) $ free1 ! $ free0 ! $ keep ! (0 ∷ 1 ∷ 2 ∷ 3 ∷ []) $ by ! (exits r e (fields .0)))))))))))))

@@ -23,7 +23,8 @@ use Rattle.payload_util.proofs.tail_where as tail
 use Rattle.payload_util.proofs.tail_where.Symbol as tail-def
 use Rattle.payload_util.proofs.tail_where.Symbol.{name as #tail}
 use Rattle.payload_util.proofs.tail_where.Met as tail-thm
-use Rattle.led.specs.Led.{checkLed}
+use Rattle.payload_util.specs.Form.{check}
+use Rattle.led.specs.Led.{leds}
 use Rattle.led.proofs.LedRecord.check as check
 use Rattle.led.proofs.LedRecord.check.Symbol as check-def
 use Rattle.led.proofs.LedRecord.check.Symbol.{name as #check}
@@ -66,7 +67,7 @@ module _ {M : Type 1} (𝓤 : URA M) (H : Heap 𝓤) (A : Atoms 𝓤) (W : Given
   L = T′.the-laws (namedLft 1 0 tt (κ, tt))
 
   abbrev made : RefT (List ℕ) → Guard → LedStart
-  made t g = record { payload = t; at = 0; checked = g }
+  made t g = record { payload = t; offset = 0; checked = g }
 
   abbrev Post : Val → SProp 𝓤
   Post = walkOf 𝓤 H A start.ended stayed (start.clauses 𝓤 H A mem run) .post (((κ, tt), (q, tt), tt, (s, tt), (val s ∷ [], tt)), tt)
@@ -94,7 +95,7 @@ module _ {M : Type 1} (𝓤 : URA M) (H : Heap 𝓤) (A : Atoms 𝓤) (W : Given
           qed W ((‵ (flft κ q) ⊛ ‵ ftrue) ∷ ‵ (owns (ShrSlice (named 0) κ u8 ∷ []) (s, tt) (val s ∷ [], tt)) ∷ []) ∵ join ! $ frame ! $ done !
 
   abbrev Checked : Guard → Type 0
-  Checked g = g ≡ checkLed (now s)
+  Checked g = g ≡ check leds (now s)
 
   check-said : (g : Guard) → ent 𝓤 (ensured 𝓤 H A check.ended (check.clauses 𝓤 H A mem run) (κ, tt) (s, tt) tt g) (fact 𝓤 (Checked g))
   check-said g = exE 𝓤 _ (λ ws. snd∗ 𝓤 (sem 𝓤 H A (lasts check.ended (κ, tt) (s, tt) ws)) (fact 𝓤 (Checked g)))

@@ -15,7 +15,7 @@ use Rattle.output.proofs.OutputRecord.decode.Tie as tie
 -- the second guard is row 16, of length / 4 records
 counted : (c : tie.After-require-present) →
     let a = c .before .before .before .before .before .before .args in
-    c .require-present .result ≡ present outCode (a .k) (length (now (a .p)) / 4)
+    c .require-present .result ≡ present outCode (a .index) (length (now (a .p)) / 4)
 counted c = c .require-present .ensures ∙ simp (c .before .count .ensures)
 
 returns-2 : tie.Need-returns-2
@@ -32,22 +32,15 @@ returns-3 c =
     let a = told .before .before .before .before .args in
     let pass = passed (told .before .before .check .ensures) (told .enum-told .given .1) in
     let is = passed (counted (c .before .before .before)) (c .before .enum-told3 .given .1) in
-    simp (pass, is) (c .decode-at .ensures ∙ record-reads (now (a .p)) pass (a .k) (present-pass _ _ _ is))
+    c .decode-at .ensures ∙ simp (record-reads (now (a .p)) pass (a .index) (present-pass _ _ _ is), pass, is)
 
 pub decode-spec : {M : Type 1} → statement M
 decode-spec =
     tie.close
     (tie.spec
-    (λ c κs. search needs)
-    (λ c. search needs)
-    (λ c. search needs)
-    (λ c κs. search needs)
+    (λ c κs. search needs) (λ c. search needs) (λ c. search needs) (λ c κs. search needs)
     (λ c. simp (refused (c .before .before .before .check .ensures) (c .before .enum-told2 .given .1) (c .refusal .ensures)))
-    (λ c κs. search needs)
-    (λ c κs. search needs)
-    (λ c. search needs)
-    (λ c. search needs)
-    (λ c κs. search needs)
+    (λ c κs. search needs) (λ c κs. search needs) (λ c. search needs) (λ c. search needs) (λ c κs. search needs)
     returns-2
     (λ c. omega (arith, present-pass _ _ _ (passed (counted (c .before .before)) (c .enum-told3 .given .1))))
     (λ c κs. search needs)

@@ -1,26 +1,11 @@
 -- `Fmt::check` meets its contract. Assumes nothing.
-use native.Mathlib.Omega.{arith}
 use borrow.Author.Needs.{needs}
-use Rattle.payload_util.proofs.Guards.{passed, stopped, least-pass}
-use Rattle.raw_card.specs.Fmt.{checkFmt}
 use Rattle.raw_card.proofs.Fmt.check.Statement.{statement}
 use Rattle.raw_card.proofs.Fmt.check.Tie as tie
 
 pub check-spec : {M : Type 1} → statement M
-unfolding checkFmt
 check-spec =
     tie.close
     (tie.spec
-    (λ c κs. search needs)
-    (λ c. search needs)
-    (λ c. search needs)
-    (λ c. stopped _ (c .before .before .require-at-least .ensures) (c .enum-told2 .given .1))
-    (λ c.
-    let told = c .before in
-    omega (arith, least-pass _ _ _ (passed (told .before .before .require-at-least .ensures) (told .enum-told .given .1))))
-    (λ c. omega (arith, c .shared-slice-known2 .given 2))
-    (λ c. omega (arith, c .shared-slice-known2 .given 2))
-    (λ c κs. search needs)
-    (λ c.
-    let told = c .before .before in
-    simp (passed (told .before .before .require-at-least .ensures) (told .enum-told .given .1)) (c .require-declared-len .ensures)))
+    (λ c κs. search needs) (λ c. search needs) (λ c κs. search needs)
+    (λ c. rw (← c .before .byte-at .ensures) (c .require-head-and-tail .ensures)))

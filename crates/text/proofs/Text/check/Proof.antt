@@ -3,25 +3,19 @@ use mathlib.Core.Path.{sym, ap, _∙_}
 use native.Mathlib.Omega.{arith}
 use borrow.Author.Needs.{needs}
 use Rattle.payload_util.proofs.Guards.{passed, stopped}
-use Rattle.text.specs.TextCommand.{textCommandOutcome}
-use Rattle.text.specs.Text.{checkText}
+use Rattle.text.specs.Text.{textCommandOutcome}
 use Rattle.text.proofs.Laws.{shape-least}
 use Rattle.text.proofs.Text.check.Statement.{statement}
 use Rattle.text.proofs.Text.check.Tie as tie
 
 pub check-spec : {M : Type 1} → statement M
-unfolding checkText
 check-spec =
     tie.close
     (tie.spec
-    (λ c κs. search needs)
-    (λ c. search needs)
-    (λ c. search needs)
+    (λ c κs. search needs) (λ c. search needs) (λ c. search needs)
     (λ c. stopped _ (c .before .before .shape .ensures) (c .enum-told2 .given .1))
     (λ c. omega (arith, shape-least _ (passed (c .before .before .before .shape .ensures) (c .before .enum-told .given .1))))
-    (λ c κs. search needs)
-    (λ c. search needs)
-    (λ c. search needs)
+    (λ c κs. search needs) (λ c. search needs) (λ c. search needs)
     (λ c.
     let command = c .before .before in
     let shape = command .before .before in

@@ -1,0 +1,70 @@
+// Templates: words in which % and a letter stand for a number, the name of a number, or bytes.
+mod names;
+pub mod out;
+pub mod table;
+
+use crate::names::name;
+use crate::out::Shape;
+use crate::out::bytes;
+use crate::out::decimal;
+use crate::out::hex;
+use crate::out::put;
+use std::num::wrapping_add_usize;
+
+// A code's number and name.
+fn coded(letter: u8, n: u64, out: &mut [u8], from: usize) -> usize {
+    let number = decimal(n, &mut *out, from);
+    let at = put(b' ', &mut *out, number);
+    name(letter, n, out, at)
+}
+
+// What a letter stands for.
+fn item(letter: u8, n: u64, tail: &[u8], out: &mut [u8], at: usize) -> usize {
+    match letter {
+        b'd' => decimal(n, out, at),
+        b'x' => hex((n % 256) as u8, out, at),
+        b's' => bytes(tail, Shape::Text, out, at),
+        b'h' => bytes(tail, Shape::Hex, out, at),
+        b'i' => bytes(tail, Shape::Bits, out, at),
+        b'A'..=b'Z' => coded(letter, n, out, at),
+        _ => name(letter, n, out, at),
+    }
+}
+
+fn value(values: &[u64], k: usize) -> u64 {
+    if k < values.len() { values[k] } else { 0 }
+}
+
+// Whether a template's byte says that the next one is a letter.
+fn is_mark(b: u8, is_letter: bool) -> bool {
+    if is_letter { false } else { b == b'%' }
+}
+
+fn piece(b: u8, is_letter: bool, n: u64, tail: &[u8], out: &mut [u8], at: usize) -> usize {
+    if is_letter {
+        return item(b, n, tail, out, at);
+    }
+    if b == b'%' {
+        return at;
+    }
+    put(b, out, at)
+}
+
+// Puts a template's words. A letter after % takes the next value: %d as a decimal number, %x as two hex digits, a capital as a code's
+// number and name, other letters as the name alone; %s, %h and %i show the tail as text, in hex and as bits, and take a value too.
+pub fn form(template: &[u8], values: &[u64], tail: &[u8], out: &mut [u8], from: usize) -> usize {
+    let mut at = from;
+    let mut k: usize = 0;
+    let mut is_letter = false;
+    let mut i: usize = 0;
+    while i < template.len() {
+        let b = template[i];
+        at = piece(b, is_letter, value(values, k), tail, &mut *out, at);
+        if is_letter {
+            k = wrapping_add_usize(k, 1);
+        }
+        is_letter = is_mark(b, is_letter);
+        i += 1;
+    }
+    at
+}

@@ -1,0 +1,35 @@
+// The names of numbers.
+use crate::out::Shape;
+use crate::out::bytes;
+use crate::table::label;
+use crate::table::nth;
+use crate::table::row;
+
+// The name that a letter's row has for a number, counted from 0: for a code, the Rust's.
+pub fn name(letter: u8, n: u64, out: &mut [u8], at: usize) -> usize {
+    let names = row(
+        label(b'%', letter, b' '),
+        b";%C Black.Red.Green.Amber.Blue.Magenta.Cyan.White\
+          ;%O Nop.PermanentOffAbortTimed.PermanentOnAbortTimed.PermanentOffAllowTimed.PermanentOnAllowTimed.\
+          TemporaryOnResume.TemporaryOffResume\
+          ;%T .PermanentNoWrap.PermanentWrap.TemporaryNoWrap.TemporaryWrap\
+          ;%B NotSpecified.RightThumb.RightIndex.RightMiddle.RightRing.RightLittle.LeftThumb.LeftIndex.LeftMiddle.\
+          LeftRing.LeftLittle.RightIris.RightRetina.LeftIris.LeftRetina.Face.RightHandGeometry.LeftHandGeometry\
+          ;%F NotSpecified.FingerprintRawPgm.FingerprintAnsi378\
+          ;%N NoError.BadCrcOrChecksum.CommandLengthError.UnknownCommandCode.UnexpectedSequenceNumber.\
+          SecurityBlockTypeNotSupported.EncryptedCommunicationRequired.BioTypeNotSupported.BioFormatNotSupported.\
+          UnableToProcessCommandRecord\
+          ;%w command.reply\
+          ;%y .strict: \
+          ;%r .command byte in no table.reply byte in no table.not the exact length (expected, got).\
+          below the least length (least, got).empty or not a multiple of the record length (record length, got).\
+          declared length or count is not the payload's.output code above 6.text byte not printable.\
+          TEXT command not 1 to 4.NAK error above 9.list without records.tail too long.count is not the tail's.\
+          code known, payload not carried.output buffer too short (needed, given).no such record (record, how many).\
+          byte that reading would fold (offset, byte)...........payload too long (longest, got)\
+          ;%e the line has to begin with command or reply.no code byte after the word.\
+          the code byte has to have two hex digits.not a hex digit.half a byte, its second hex digit is missing.\
+          payload of more than 65,547 bytes",
+    );
+    bytes(nth(n, names), Shape::Plain, out, at)
+}

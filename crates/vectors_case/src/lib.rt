@@ -1,0 +1,202 @@
+// A case with its wanted answer, and what every comparison shares: buffers that are filled up, and the fields of records made by hand.
+use payload_util::Guard;
+use payload_util::Refusal;
+use payload_util::Written;
+ghost use mathlib.Core.Path.{_≡_};
+ghost use mathlib.Core.Bool.{true};
+ghost use mathlib.Core.Logic.{_↔_};
+ghost use Prim.Native.Nat.{_<_};
+ghost use lib.ListN.{length};
+ghost use Rattle.payload_util.specs.Bytes.{byteAt, u16At, u32At};
+ghost use Rattle.payload_util.specs.Refusals.{row};
+ghost use Rattle.payload_util.specs.Guards.{room};
+ghost use Rattle.payload_util.specs.Writing.{roomLast};
+ghost use Rattle.payload_util.specs.declared.Guard.the-variants.{Refused};
+ghost use Rattle.vectors_case.specs.Case.{wanted, wantedEffect, Tried};
+ghost use Rattle.vectors_case.specs.Buffer.{AllFrom, around, putting};
+
+pub struct Case {
+    pub class: u8,
+    pub code: u8,
+    pub argument: usize,
+    // the wanted answer: the row of its refusal with its two numbers, or 0
+    pub row: u8,
+    pub first: usize,
+    pub second: usize,
+    // where its output begins and ends; its input ends where that begins
+    pub mid: usize,
+    pub end: usize,
+    // how long it is in the stream
+    pub size: usize,
+    // how it is tried: the room that a writer is given, and the byte that the whole buffer is filled up with before
+    pub room: usize,
+    pub fill: u8,
+}
+
+impl Case {
+    // Whether e is the wanted refusal.
+    pub fn refuses(self, e: Refusal) -> bool
+        ensures { λ r. ⌜ (r ≡ true) ↔ (Refused e ≡ wanted self) ⌝ }
+    {
+        if self.row == 0 {
+            return false;
+        }
+        is_row(e, self.row, self.code, self.first, self.second)
+    }
+
+    // Whether g is the wanted answer.
+    pub fn guards(self, g: Guard) -> bool
+        ensures { λ r. ⌜ (r ≡ true) ↔ (g ≡ wanted self) ⌝ }
+    {
+        match g {
+            Guard::Pass => self.row == 0,
+            Guard::Refused(e) => self.refuses(e),
+        }
+    }
+}
+
+// Whether e is this row.
+fn is_row(e: Refusal, number: u8, code: u8, first: usize, second: usize) -> bool
+    ensures { λ r. ⌜ (r ≡ true) ↔ (e ≡ row number code first second) ⌝ }
+{
+    if e.number != number {
+        return false;
+    }
+    if e.code != code {
+        return false;
+    }
+    if e.first != first {
+        return false;
+    }
+    if e.second != second {
+        return false;
+    }
+    true
+}
+
+// Puts b at every index from one up to another. False where the slice is too short.
+pub fn put(into: &mut [u8], from: usize, to: usize, b: u8) -> bool
+    ensures { λ r. ⌜ (r, now (into .exit)) ≡ putting from to b (now (into .entry)) ⌝ }
+{
+    if into.len() < to {
+        return false;
+    }
+    let mut i = from;
+    while i < to {
+        into[i] = b;
+        i += 1;
+    }
+    true
+}
+
+// Whether the answer and every byte of a buffer are the wanted ones, after a writer was given its room alone.
+pub fn wrote(c: Case, written: Written, want: &[u8], out: &[u8]) -> bool
+    ensures { λ r. ⌜ (r ≡ true) ↔ Tried c written (now (want .entry)) (now (out .entry)) ⌝ }
+{
+    let room = c.room;
+    if out.len() < room {
+        return false;
+    }
+    if !in_room(c, written, want, &out[0..room]) {
+        return false;
+    }
+    filled(out, room, c.fill)
+}
+
+// Whether the answer and every byte of the room are the wanted ones.
+fn in_room(c: Case, written: Written, want: &[u8], out: &[u8]) -> bool
+    ensures { λ r. ⌜ (r ≡ true) ↔ ((written, now (out .entry)) ≡ wantedEffect c (now (want .entry)) (length (now (out .entry)))) ⌝ }
+{
+    match written {
+        Written::Wrote(n) => {
+            if c.row != 0 {
+                return false;
+            }
+            if n != want.len() {
+                return false;
+            }
+            holds(out, 0, want, c.fill)
+        }
+        Written::Refused(e) => {
+            if !filled(out, 0, c.fill) {
+                return false;
+            }
+            refuses(c, e, want.len(), out.len())
+        }
+    }
+}
+
+// Whether e has to be the refusal where the output has n bytes and the buffer has room for so many.
+fn refuses(c: Case, e: Refusal, n: usize, given: usize) -> bool
+    ensures { λ r. ⌜ (r ≡ true) ↔ (Refused e ≡ roomLast (wanted c) (room (c .code) n given)) ⌝ }
+{
+    if c.row != 0 {
+        return c.refuses(e);
+    }
+    if n <= given {
+        return false;
+    }
+    is_row(e, 15, c.code, n, given)
+}
+
+// Whether a buffer has the wanted bytes from an index on, and else what it was filled up with.
+pub fn holds(out: &[u8], at: usize, want: &[u8], fill: u8) -> bool
+    ensures { λ r. ⌜ (r ≡ true) ↔ (now (out .entry) ≡ around at (now (want .entry)) (length (now (out .entry))) fill) ⌝ }
+{
+    let n = want.len();
+    if out.len() < n {
+        return false;
+    }
+    if out.len() - n < at {
+        return false;
+    }
+    let end = at + n;
+    if !check::same(&out[at..end], want) {
+        return false;
+    }
+    if !filled(&out[0..at], 0, fill) {
+        return false;
+    }
+    filled(out, end, fill)
+}
+
+// Whether every byte from an index on is b.
+pub fn filled(s: &[u8], from: usize, b: u8) -> bool
+    ensures { λ r. ⌜ (r ≡ true) ↔ AllFrom (now (s .entry)) from b ⌝ }
+{
+    let mut i = from;
+    while i < s.len() {
+        if s[i] != b {
+            return false;
+        }
+        i += 1;
+    }
+    true
+}
+
+// Fields of records made by hand. The library's own numbers are not used: they are what is compared.
+// The byte at an index, or 0.
+pub fn byte(s: &[u8], at: usize) -> u8
+    ensures { λ r. ⌜ r ≡ byteAt (now (s .entry)) at ⌝ }
+{
+    if at < s.len() { s[at] } else { 0 }
+}
+
+// The number of the two bytes from an offset on, and of the four, low byte first.
+pub fn u16_at(s: &[u8], offset: usize) -> u16
+    ensures { λ r. ⌜ r ≡ u16At (now (s .entry)) offset ⌝ }
+{
+    if s.len() <= offset {
+        return 0;
+    }
+    (byte(s, offset) as u16) + 256 * (byte(s, offset + 1) as u16)
+}
+
+pub fn u32_at(s: &[u8], offset: usize) -> u32
+    ensures { λ r. ⌜ r ≡ u32At (now (s .entry)) offset ⌝ }
+{
+    if s.len() <= offset {
+        return 0;
+    }
+    (u16_at(s, offset) as u32) + 65536 * (u16_at(s, offset + 2) as u32)
+}

@@ -1,0 +1,30 @@
+// Cases of tables and guards, and cases that read a payload, on the library: classes 0 to 6 and 10 to 13 of crates/vectors.
+pub mod guard;
+pub mod list;
+mod own;
+pub mod payload;
+mod read_bio;
+mod read_command;
+mod read_reply;
+pub mod table;
+pub mod walker;
+
+use payload_util::Refusal;
+use vectors_case::Case;
+
+// Whether a record's fixed fields and its tail, which is written from an index on, are the wanted ones.
+fn record(c: Case, fixed: &[u8], tail: &[u8], at: usize, want: &[u8]) -> bool {
+    let n = fixed.len();
+    if want.len() < n {
+        return false;
+    }
+    if want.len() < at {
+        return false;
+    }
+    c.row == 0 && check::same(fixed, &want[0..n]) && check::same(tail, &want[at..want.len()])
+}
+
+// Whether e has to be the refusal, and the tail beside it is empty.
+fn refusal(c: Case, e: Refusal, tail: &[u8]) -> bool {
+    c.refuses(e) && tail.len() == 0
+}

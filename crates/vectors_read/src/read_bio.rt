@@ -1,0 +1,60 @@
+// The readers of the biometric payloads.
+use bio::BioMatchR;
+use bio::BioMatchRRead;
+use bio::BioReadR;
+use bio::BioReadRRead;
+use biometric::BioHead;
+use biometric::BioMatch;
+use biometric::BioMatchRead;
+use biometric::BioRead;
+use biometric::BioReadRead;
+use vectors_case::Case;
+
+// A template stands after its length.
+fn head(c: Case, h: BioHead, tail: &[u8], at: usize, want: &[u8]) -> bool {
+    let bio_type = h.bio_type;
+    let bio_format = h.bio_format;
+    let fixed = [
+        h.reader,
+        bio_type.as_byte(),
+        bio_format.as_byte(),
+        h.quality,
+    ];
+    crate::record(c, &fixed, tail, at, want)
+}
+
+pub(crate) fn bio_read(c: Case, p: &[u8], want: &[u8]) -> bool {
+    match BioRead::decode(p) {
+        BioReadRead::Read(r) => head(c, r.head, &[], BioRead::WIRE_LEN, want),
+        BioReadRead::Refused(e) => c.refuses(e),
+    }
+}
+
+pub(crate) fn bio_match(c: Case, p: &[u8], want: &[u8]) -> bool {
+    let template = BioMatch::template(p);
+    match BioMatch::decode(p) {
+        BioMatchRead::Read(r) => head(c, r.head, template, BioMatch::WIRE_LEN, want),
+        BioMatchRead::Refused(e) => crate::refusal(c, e, template),
+    }
+}
+
+pub(crate) fn bio_read_r(c: Case, p: &[u8], want: &[u8]) -> bool {
+    let sample = BioReadR::data(p);
+    match BioReadR::decode(p) {
+        BioReadRRead::Read(r) => head(c, r.head, sample, BioReadR::WIRE_LEN, want),
+        BioReadRRead::Refused(e) => crate::refusal(c, e, sample),
+    }
+}
+
+pub(crate) fn bio_match_r(c: Case, p: &[u8], want: &[u8]) -> bool {
+    match BioMatchR::decode(p) {
+        BioMatchRRead::Read(r) => crate::record(
+            c,
+            &[r.reader, r.result, r.score],
+            &[],
+            BioMatchR::WIRE_LEN,
+            want,
+        ),
+        BioMatchRRead::Refused(e) => c.refuses(e),
+    }
+}

@@ -1,0 +1,62 @@
+// The readers of TEXT, FILETRANSFER and MFG.
+use file_transfer::FileTransfer;
+use file_transfer::FileTransferRead;
+use mfg::Mfg;
+use mfg::MfgRead;
+use payload_util::u32_bytes;
+use text::Text;
+use text::TextRead;
+use vectors_case::Case;
+
+pub(crate) fn text(c: Case, p: &[u8], want: &[u8]) -> bool {
+    let characters = Text::text(p);
+    match Text::decode(p) {
+        TextRead::Read(r) => {
+            let command = r.command;
+            let fixed = [r.reader, command.as_byte(), r.temp_time_s, r.row, r.column];
+            crate::record(c, &fixed, characters, Text::WIRE_LEN, want)
+        }
+        TextRead::Refused(e) => crate::refusal(c, e, characters),
+    }
+}
+
+pub(crate) fn file_transfer(c: Case, p: &[u8], want: &[u8]) -> bool {
+    let fragment = FileTransfer::fragment(p);
+    match FileTransfer::decode(p) {
+        FileTransferRead::Read(r) => {
+            let fixed = file_fields(r);
+            crate::record(c, &fixed, fragment, FileTransfer::WIRE_LEN, want)
+        }
+        FileTransferRead::Refused(e) => crate::refusal(c, e, fragment),
+    }
+}
+
+fn file_fields(r: FileTransfer) -> [u8; 9] {
+    let total = u32_bytes(r.total_size);
+    let offset = u32_bytes(r.offset);
+    [
+        r.file_type,
+        total[0],
+        total[1],
+        total[2],
+        total[3],
+        offset[0],
+        offset[1],
+        offset[2],
+        offset[3],
+    ]
+}
+
+pub(crate) fn mfg(c: Case, p: &[u8], want: &[u8]) -> bool {
+    let payload = Mfg::payload(p);
+    match Mfg::decode(p) {
+        MfgRead::Read(r) => crate::record(
+            c,
+            &[r.oui_0, r.oui_1, r.oui_2],
+            payload,
+            Mfg::WIRE_LEN,
+            want,
+        ),
+        MfgRead::Refused(e) => crate::refusal(c, e, payload),
+    }
+}

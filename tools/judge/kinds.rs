@@ -1,0 +1,157 @@
+//! The kinds of tools/kinds.txt, whose head describes the columns. A line that is none stops the program.
+use std::sync::LazyLock;
+
+/// The longest payload that the calls by code byte take.
+pub const LONGEST: usize = 65_546;
+
+#[derive(Clone, Copy, PartialEq, Eq)]
+pub enum Side {
+    Command = 0,
+    Reply = 1,
+}
+
+impl Side {
+    pub const BOTH: [Side; 2] = [Side::Command, Side::Reply];
+
+    pub fn name(self) -> &'static str {
+        ["command", "reply"][self as usize]
+    }
+
+    pub fn named(name: &str) -> Option<Side> {
+        Side::BOTH.into_iter().find(|s| s.name() == name)
+    }
+}
+
+#[derive(Clone, Copy)]
+pub enum Field {
+    /// So many bytes of any value.
+    Any(usize),
+    /// A byte in a range; every other is refused.
+    Code(u8, u8),
+    /// A byte up to this one; a higher one is read as 0.
+    Folded(u8),
+    /// The tail's bytes, counted in so many bytes; no field of the record.
+    Length(usize),
+    /// The same; a field of the record.
+    Count(usize),
+    /// The tail's bits, counted in two bytes; a field of the record.
+    Bits,
+    Text,
+    Tail,
+    /// A tail that is cut where the payload's first byte is another than this.
+    TailAfter(u8),
+}
+
+impl Field {
+    fn parse(s: &str) -> Option<Field> {
+        let byte = |hex| u8::from_str_radix(hex, 16).ok();
+        Some(match s {
+            "len8" => Field::Length(1),
+            "len16" => Field::Length(2),
+            "count8" => Field::Count(1),
+            "bits16" => Field::Bits,
+            "text" => Field::Text,
+            "tail" => Field::Tail,
+            _ => match (s.strip_prefix("<="), s.strip_prefix("tail:"), s.split_once('-')) {
+                (Some(high), ..) => Field::Folded(byte(high)?),
+                (_, Some(first), _) => Field::TailAfter(byte(first)?),
+                (.., Some((low, high))) => Field::Code(byte(low)?, byte(high)?),
+                _ => Field::Any(s.parse().ok()?),
+            },
+        })
+    }
+
+    /// Bytes before the tail.
+    pub fn width(self) -> usize {
+        match self {
+            Field::Any(n) | Field::Length(n) | Field::Count(n) => n,
+            Field::Code(..) | Field::Folded(_) => 1,
+            Field::Bits => 2,
+            Field::Text | Field::Tail | Field::TailAfter(_) => 0,
+        }
+    }
+
+    /// The most bytes that the tail can have by this field.
+    fn most_tail(self) -> Option<usize> {
+        match self {
+            Field::Length(n) | Field::Count(n) => Some((1 << (8 * n)) - 1),
+            Field::Bits => Some(0xFFFF_usize.div_ceil(8)),
+            Field::Text | Field::Tail | Field::TailAfter(_) => Some(LONGEST),
+            _ => None,
+        }
+    }
+}
+
+pub struct Kind {
+    pub name: &'static str,
+    pub side: Side,
+    pub code: u8,
+    pub least: usize,
+    pub most: usize,
+    pub step: usize,
+    pub rows: Vec<usize>,
+    pub fields: Vec<Field>,
+    pub timed: Vec<usize>,
+}
+
+impl Kind {
+    fn parse(line: &'static str) -> Result<Kind, &'static str> {
+        let columns: Vec<&str> = line.split_ascii_whitespace().collect();
+        let [name, side, code, least, most, step, rows, layout, _, timed] = columns[..] else { return Err("not ten columns") };
+        let number = |s: &str| s.parse::<usize>().map_err(|_| "no number where one has to be");
+        let numbers = |s: &str| s.split(',').map(number).collect::<Result<Vec<_>, _>>();
+        let k = Kind {
+            name,
+            side: Side::named(side).ok_or("the side is command or reply")?,
+            code: u8::from_str_radix(code, 16).map_err(|_| "the code is a byte in hex")?,
+            least: number(least)?,
+            most: number(most)?,
+            step: number(step)?,
+            rows: numbers(rows)?,
+            fields: layout.split(',').map(Field::parse).collect::<Option<_>>().ok_or("an unknown field in the layout")?,
+            timed: numbers(timed)?,
+        };
+        if k.lengths() == (k.least, k.most) { Ok(k) } else { Err("least, most and step are not what the layout makes") }
+    }
+
+    /// Least and most, by the layout.
+    fn lengths(&self) -> (usize, usize) {
+        let least = self.fields.iter().map(|f| f.width()).sum();
+        let tail = self.fields.iter().filter_map(|f| f.most_tail()).min().unwrap_or(0);
+        let most = match self.step {
+            1 => LONGEST.min(least + tail),
+            n if n == least => LONGEST - LONGEST % n,
+            _ => 0,
+        };
+        (least, most)
+    }
+
+    /// Offsets of the bytes that are folded, with the highest value that is not; in each record of a list.
+    pub fn limits(&self) -> impl Iterator<Item = (usize, u8)> + '_ {
+        let mut at = 0;
+        self.fields.iter().filter_map(move |f| {
+            at += f.width();
+            if let Field::Folded(highest) = *f { Some((at - 1, highest)) } else { None }
+        })
+    }
+
+    /// The first byte that has to stand before a tail that is not cut.
+    pub fn kept_after(&self) -> Option<u8> {
+        self.fields.iter().find_map(|f| if let Field::TailAfter(first) = *f { Some(first) } else { None })
+    }
+
+    /// Whether normalising can change a payload.
+    pub fn can_change(&self) -> bool {
+        self.kept_after().is_some() || self.limits().next().is_some()
+    }
+}
+
+pub static KINDS: LazyLock<Vec<Kind>> = LazyLock::new(|| {
+    let parsed = |(number, line)| Kind::parse(line).unwrap_or_else(|why| panic!("tools/kinds.txt, line {number}: {why}"));
+    crate::lines(include_str!("../kinds.txt")).map(parsed).collect()
+});
+
+/// None: no carried kind.
+pub fn kind(side: Side, code: u8) -> Option<&'static Kind> {
+    KINDS.iter().find(|k| k.side == side && k.code == code)
+}

@@ -1,0 +1,11 @@
+//! What the oracle, the comparison and the bench share.
+pub mod chance;
+pub mod kinds;
+pub mod payloads;
+pub mod read;
+pub mod refusal;
+
+/// The lines of a table, with their numbers, without comments and empty ones.
+fn lines(table: &'static str) -> impl Iterator<Item = (usize, &'static str)> {
+    (1..).zip(table.lines()).filter(|(_, line)| !line.is_empty() && !line.starts_with('#'))
+}

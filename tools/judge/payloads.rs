@@ -1,0 +1,64 @@
+//! Payloads of a kind, by chance.
+use crate::chance::Chance;
+use crate::kinds::{Field, Kind, LONGEST};
+
+/// Bytes at the ends of the code tables, and of printable text.
+const EDGES: [u8; 18] = [0, 1, 2, 3, 4, 5, 6, 7, 8, 9, 10, 0x11, 0x12, 0x1F, 0x20, 0x7E, 0x7F, 0xFF];
+
+impl Kind {
+    /// The nearest length below, or the least, that a payload can have.
+    pub fn near(&self, n: usize) -> usize {
+        let n = n.clamp(self.least, self.most);
+        n - n % self.step
+    }
+
+    /// Lengths where an answer can turn.
+    pub fn edges(&self) -> [usize; 3] {
+        [self.least, self.most, LONGEST]
+    }
+
+    /// Most of these are accepted. n is a length that the kind can have.
+    pub fn good(&self, n: usize, r: &mut Chance) -> Vec<u8> {
+        let mut p = r.bytes(n);
+        let record = if self.step > 1 { self.step } else { n };
+        p.chunks_exact_mut(record).for_each(|part| self.set_fields(part, r));
+        p
+    }
+
+    /// Sets what may not have any value.
+    fn set_fields(&self, p: &mut [u8], r: &mut Chance) {
+        let tail = p.len() - self.least;
+        let mut at = 0;
+        for f in &self.fields {
+            match *f {
+                Field::Any(_) | Field::Tail => {}
+                Field::Code(low, high) => p[at] = r.from_to(low, high),
+                Field::Folded(highest) => p[at] = r.mostly_up_to(highest),
+                Field::Length(n) | Field::Count(n) => p[at..at + n].copy_from_slice(&tail.to_le_bytes()[..n]),
+                Field::Bits => {
+                    let bits = (8 * tail).saturating_sub(r.below(8)).min(0xFFFF) as u16;
+                    p[at..at + 2].copy_from_slice(&bits.to_le_bytes());
+                }
+                Field::Text => p[at..].iter_mut().for_each(|b| *b = 0x20 + *b % 0x5F),
+                Field::TailAfter(first) => {
+                    if r.below(2) == 0 {
+                        p[0] = first;
+                    }
+                }
+            }
+            at += f.width();
+        }
+    }
+
+    /// An edge in the fixed part, a bit turned, a byte cut out, one put in.
+    pub fn damaged(&self, p: &[u8], r: &mut Chance) -> [Vec<u8>; 4] {
+        let [mut edge, mut turned, mut less, mut more] = [p.to_vec(), p.to_vec(), p.to_vec(), p.to_vec()];
+        let at = r.below(p.len().min(self.least + 4));
+        edge[at] = EDGES[r.below(EDGES.len())];
+        let at = r.below(p.len());
+        turned[at] ^= 1 << r.below(8);
+        less.remove(at);
+        more.insert(at, r.byte());
+        [edge, turned, less, more]
+    }
+}
