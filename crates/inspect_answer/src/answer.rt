@@ -1,18 +1,21 @@
 // What the library says of a payload, in words. The words of its kind come as a row: the name, and the template of a record.
 use crate::Shown;
-use inspect_fields::next;
 use inspect_fields::of;
 use inspect_fields::tail;
 use inspect_form::form;
 use inspect_form::out::first;
 use inspect_form::table::nth;
 use inspect_line::Line;
+use led::LedRecord;
 use osdp::Kind;
 use osdp::Lookup;
 use osdp::Side;
+use output::OutputRecord;
 use payload_util::Guard;
 use payload_util::Refusal;
 use payload_util::Written;
+ghost use Prim.Native.Nat.{_<_};
+ghost use lib.ListN.{length};
 
 // The kind's name; none where no kind has the code, or the payload is too long.
 fn name<'a>(line: Line, words: &'a [u8], p: &'a [u8]) -> &'a [u8] {
@@ -50,6 +53,18 @@ fn refusal(strict: u64, e: Refusal, out: &mut [u8], at: usize) -> usize {
     let row = e.number as u64;
     let values = [strict, row, e.first as u64, e.second as u64, row];
     form(b"  %yrefused, row %d (%d, %d): %r\n", &values, b"", out, at)
+}
+
+// The offset after the record at an offset; only LED and OUT have more than one record.
+fn next(kind: Kind, p: &[u8], offset: usize) -> usize
+    requires { ⌜ offset < length (now p) ⌝ }
+    ensures { λ r. ⌜ offset < r ⌝ }
+{
+    match kind {
+        Kind::Led => offset + LedRecord::WIRE_LEN,
+        Kind::Out => offset + OutputRecord::WIRE_LEN,
+        _ => p.len(),
+    }
 }
 
 // The records, one after another.

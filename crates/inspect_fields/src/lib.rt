@@ -30,7 +30,7 @@ use xrd::Xrd;
 use xrd::XrdRead;
 ghost use mathlib.Core.Path.{_≡_};
 ghost use mathlib.Core.List.{[], _∷_};
-ghost use Prim.Native.Nat.{_≤_, _<_};
+ghost use Prim.Native.Nat.{_≤_};
 ghost use lib.ListN.{length};
 ghost use Rattle.osdp.specs.declared.Kind.the-variants as kinds;
 ghost use Rattle.inspect_fields.specs.Fields.{headFields, padded, fieldsOf};
@@ -286,17 +286,5 @@ pub fn tail<'a>(kind: Kind, p: &'a [u8], space: &'a mut [u8]) -> &'a [u8] {
         Kind::Nak => Nak::completion_codes(p),
         Kind::Xrd => Xrd::payload(p),
         Kind::Led | Kind::Out | Kind::BioRead | Kind::BioMatchR => p,
-    }
-}
-
-// The offset after the record at an offset; only LED and OUT have more than one record.
-pub fn next(kind: Kind, p: &[u8], offset: usize) -> usize
-    requires { ⌜ offset < length (now p) ⌝ }
-    ensures { λ r. ⌜ offset < r ⌝ }
-{
-    match kind {
-        Kind::Led => offset + LedRecord::WIRE_LEN,
-        Kind::Out => offset + OutputRecord::WIRE_LEN,
-        _ => p.len(),
     }
 }

@@ -13,7 +13,8 @@ use Rattle.led.proofs.LedRecord.fold_all.Statement.{statement}
 use Rattle.led.proofs.LedRecord.fold_all.Tie as tie
 
 abbrev Inv-loop : tie.InvT-loop
-Inv-loop p out₀ n k₀ out k = (out ≡ keep (times k (ledLimits highestColor)) out₀) × (k ≤ n) × (length out ≡ length out₀)
+Inv-loop p out₀ n k₀ out k =
+    (out ≡ keep (times k (ledLimits highestColor)) out₀) × (k ≤ n) × (length out ≡ length out₀) × (14 * n ≤ length p) × (length p ≤ length out₀)
 
 abbrev μ-loop : tie.MeasureT-loop
 μ-loop p out₀ n k₀ out k = n - k
@@ -34,7 +35,7 @@ loop-again c =
     let width : l .k * 14 + 14 - l .k * 14 ≡ 14 = omega arith in
     let next = next-folded (now (start .args .p)) o (l .out) (l .k) _ width (start .pre) (l .inv .0)
     (omega (arith, c .before .before .before .before .before .before .before .count .ensures)) _ (c .before .before .fold .ensures) in
-    (next, omega arith, ap length next ∙ length-keep (times (l .k + 1) (ledLimits highestColor)) o)
+    (next, omega arith, ap length next ∙ length-keep (times (l .k + 1) (ledLimits highestColor)) o, l .inv .3, l .inv .4)
 
 returns : tie.Need-returns Inv-loop μ-loop
 returns c =
@@ -49,31 +50,9 @@ fold-all-spec =
     Inv-loop
     μ-loop
     (λ c κs. search needs)
-    (λ c. (refl, omega arith, refl))
-    (λ c.
-    let start = c .before .before .before .before .before in
-    omega (arith, c .before .before .count .ensures, front-fits (now (start .args .p)) (now (start .args .out)) (start .pre)))
-    (λ c.
-    let start = c .before .before .before .before .before in
-    omega (arith, c .before .before .count .ensures, front-fits (now (start .args .p)) (now (start .args .out)) (start .pre)))
-    (λ c.
-    let start = c .before .before .before .before .before in
-    omega (arith, c .before .before .count .ensures, front-fits (now (start .args .p)) (now (start .args .out)) (start .pre)))
-    (λ c.
-    let start = c .before .before .before .before .before in
-    omega (arith, c .before .before .count .ensures, front-fits (now (start .args .p)) (now (start .args .out)) (start .pre)))
-    (λ c.
-    let start = c .before .before .before .before .before in
-    omega (arith, c .before .before .count .ensures, front-fits (now (start .args .p)) (now (start .args .out)) (start .pre)))
-    (λ c.
-    let start = c .before .before .before .before .before .before in
-    omega (arith, c .before .before .before .count .ensures, front-fits (now (start .args .p)) (now (start .args .out)) (start .pre)))
-    (λ c.
-    let start = c .before .before .before .before .before .before in
-    omega (arith, c .before .before .before .count .ensures, front-fits (now (start .args .p)) (now (start .args .out)) (start .pre)))
-    (λ c.
-    let start = c .before .before .before .before .before .before in
-    omega (arith, c .before .before .before .count .ensures, front-fits (now (start .args .p)) (now (start .args .out)) (start .pre)))
+    (λ c. (refl, omega arith, refl, omega (arith, c .count .ensures), front-fits _ _ (c .before .before .before .pre)))
+    (λ c. omega arith) (λ c. omega arith) (λ c. omega arith) (λ c. omega arith) (λ c. omega arith) (λ c. omega arith) (λ c. omega arith)
+    (λ c. omega arith)
     fold-requires
     (λ c. omega arith)
     (λ c. omega arith)
