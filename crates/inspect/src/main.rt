@@ -1,7 +1,5 @@
 // Shows payloads in words: reads lines such as `command 69 00 00 ..` from standard input or from a file.
-mod input;
-
-use crate::input::Input;
+use inspect_answer::input::Input;
 use inspect_form::out::flush;
 use inspect_line::LONGEST;
 use libc::STDERR_FILENO;

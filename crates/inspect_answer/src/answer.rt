@@ -131,7 +131,7 @@ fn accepted<'a>(
     normalised(line, p, space, out, at)
 }
 
-pub fn answer<'a>(
+pub(crate) fn answer<'a>(
     line: Line,
     words: &'a [u8],
     p: &'a [u8],

@@ -1,5 +1,6 @@
-// A payload in words: the kinds' names, and what is shown of their records.
+// Payloads in words, line by line: the kinds' names, and what is shown of their records.
 mod answer;
+pub mod input;
 
 use crate::answer::answer;
 use inspect_form::out::digit;
@@ -9,9 +10,9 @@ use inspect_line::Line;
 use osdp::Side;
 
 // How much of the output buffer is in use after a payload was shown, and whether it was refused.
-pub struct Shown {
-    pub at: usize,
-    pub is_refused: bool,
+pub(crate) struct Shown {
+    pub(crate) at: usize,
+    pub(crate) is_refused: bool,
 }
 
 // A kind's row is labelled with c for a command or r for a reply, and the code byte in hex.
@@ -25,7 +26,7 @@ fn label_of(line: Line) -> u64 {
 }
 
 // Shows a payload. A row has a kind's name and the template of its record, with each field under the Rust's name.
-pub fn show(line: Line, p: &[u8], space: &mut [u8], out: &mut [u8], from: usize) -> Shown {
+pub(crate) fn show(line: Line, p: &[u8], space: &mut [u8], out: &mut [u8], from: usize) -> Shown {
     let words = row(
         label_of(line),
         b";c69 LED.  record %d at offset %d: reader %d, led %d\n\

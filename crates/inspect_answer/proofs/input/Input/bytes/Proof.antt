@@ -3,8 +3,8 @@ use mathlib.Core.Path.{_≡_}
 use Prim.Native.Nat.{_-_}
 use borrow.Author.Needs.{needs}
 use lib.ListN.{length}
-use Rattle.inspect.proofs.input.Input.bytes.Statement.{statement}
-use Rattle.inspect.proofs.input.Input.bytes.Tie as tie
+use Rattle.inspect_answer.proofs.input.Input.bytes.Statement.{statement}
+use Rattle.inspect_answer.proofs.input.Input.bytes.Tie as tie
 
 abbrev Inv-loop : tie.InvT-loop
 Inv-loop input payload₀ space₀ out₀ s₀ i₀ payload space out s i = (length payload ≡ length payload₀) × (length space ≡ length space₀) × (length out ≡ length out₀)

@@ -1,5 +1,5 @@
 // The lines of the input, one after another, and how many of each sort there were.
-use inspect_answer::show;
+use crate::show;
 use inspect_form::form;
 use inspect_form::out::first;
 use inspect_form::table::nth;
