@@ -14,6 +14,8 @@ use payload_util::Written;
 use vectors_case::Case;
 use vectors_case::put;
 use vectors_case::wrote;
+ghost use mathlib.Core.Path.{_≡_};
+ghost use lib.ListN.{length};
 
 // The class of commands.
 const COMMANDS: u8 = 5;
@@ -52,7 +54,9 @@ impl Call {
     }
 }
 
-pub fn run(c: Case, p: &[u8], want: &[u8], out: &mut [u8]) -> bool {
+pub fn run(c: Case, p: &[u8], want: &[u8], out: &mut [u8]) -> bool
+    ensures { λ _. ⌜ length (now (out .exit)) ≡ length (now (out .entry)) ⌝ }
+{
     by_code(c, p, want, &mut *out) && of_kind(c, p, want, out)
 }
 

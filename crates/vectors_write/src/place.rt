@@ -6,8 +6,12 @@ use vectors_case::Case;
 use vectors_case::filled;
 use vectors_case::holds;
 use vectors_case::put;
+ghost use mathlib.Core.Path.{_≡_};
+ghost use lib.ListN.{length};
 
-pub fn run(c: Case, input: &[u8], want: &[u8], out: &mut [u8]) -> bool {
+pub fn run(c: Case, input: &[u8], want: &[u8], out: &mut [u8]) -> bool
+    ensures { λ _. ⌜ length (now (out .exit)) ≡ length (now (out .entry)) ⌝ }
+{
     let n = out.len();
     let room = c.second;
     if n < room {

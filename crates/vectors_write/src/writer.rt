@@ -10,12 +10,16 @@ use raw_card::Raw;
 use vectors_case::Case;
 use vectors_case::put;
 use vectors_case::wrote;
+ghost use mathlib.Core.Path.{_≡_};
+ghost use lib.ListN.{length};
 
 const COMMANDS: u8 = 7;
 
 const REPLIES: u8 = 8;
 
-pub fn run(c: Case, input: &[u8], want: &[u8], out: &mut [u8]) -> bool {
+pub fn run(c: Case, input: &[u8], want: &[u8], out: &mut [u8]) -> bool
+    ensures { λ _. ⌜ length (now (out .exit)) ≡ length (now (out .entry)) ⌝ }
+{
     let n = out.len();
     let room = c.room;
     if n < room {
