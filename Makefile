@@ -5,7 +5,7 @@ SEED =
 BESIDE =
 LIB := target/staticlib/libosdp.a
 
-.PHONY: help run inputs lib lib-selftest example test compare compare-vectors compare-calls bench performance proof-map clean
+.PHONY: help run inputs lib lib-selftest example test compare compare-vectors compare-calls bench performance proof-map names clean
 
 help:
 	@echo "make run          proves and builds inspect, and shows the sample payloads with it"
@@ -19,7 +19,8 @@ help:
 	@echo "  compare-calls     the four C calls, in one process with the Rust"
 	@echo "make bench        times and instructions against the original Rust, to build/bench"
 	@echo "make performance  the same, and writes docs/PERFORMANCE.md and docs/performance.svg"
-	@echo "make proof-map    whether every name in docs/PROOF-MAP.md exists"
+	@echo "make proof-map    whether every name in docs/PROOF-MAP.md and every requirement that is cited exists"
+	@echo "make names        whether the names of all codes are the Rust's: definitions, code, and what inspect shows; and whether this check can fail"
 	@echo "make clean        removes build/"
 	@echo
 	@echo "RUST=FOLDER  where the original Rust is (Quantumlyy/osdp-rs at 8e2b7c7df1); by default ../shared/docs/src beside this repository"
@@ -33,7 +34,7 @@ run:
 
 inputs:
 	rt check inspect
-	tools/inspect/inputs.py target/bin/inspect "$(RUST)"
+	tools/inspect/inputs.py target/bin/inspect
 
 lib: $(LIB)
 	tools/lib/check.py $(LIB)
@@ -68,6 +69,11 @@ performance: $(LIB)
 
 proof-map:
 	python3 tools/proof_map.py
+
+names:
+	rt check inspect
+	tools/names.py "$(RUST)"
+	tools/names.py --selftest "$(RUST)"
 
 clean:
 	rm -rf build

@@ -1,5 +1,6 @@
 #!/usr/bin/env python3
-"""Checks docs/PROOF-MAP.md: every name in it exists, no cell is empty, and every must-fail edit of the repository is in it.
+"""Checks docs/PROOF-MAP.md: every name in it exists, no cell is empty, and every must-fail edit of the repository and every requirement of
+docs/REQUIREMENTS.md is in it. Checks also that every requirement that a file of the repository cites exists.
 
 usage: proof_map.py [FOLDER]
 
@@ -38,6 +39,27 @@ def definitions(crate):
     return found
 
 
+def requirements():
+    """The items of docs/REQUIREMENTS.md, in order."""
+    return re.findall(r"^- \*\*(R\d+\.\d+)\*\*", (top / "docs/REQUIREMENTS.md").read_text(encoding="utf-8"), re.M)
+
+
+def cited(text):
+    """The requirements that a text cites; `R4.1 to R4.3` cites all three."""
+    found = set(re.findall(r"\bR\d+\.\d+\b", text))
+    for chapter, low, high in re.findall(r"\bR(\d+)\.(\d+) to R\1\.(\d+)\b", text):
+        found |= {f"R{chapter}.{n}" for n in range(int(low), int(high) + 1)}
+    return found
+
+
+def files():
+    """The files whose citations are checked; the requirements' own page names some that later requests will add."""
+    for pattern in ("*.md", "crates.txt", "docs/**/*.md", "crates/**/*.rt", "crates/**/*.antt", "crates/*/must-fail/*.edit", "crates/*/README.md",
+                    "tools/**/*.*", "include/*", "examples/**/*.[ch]"):
+        yield from (p for p in sorted(top.glob(pattern)) if p.is_file() and p.name != "REQUIREMENTS.md" and p.suffix in TEXTS)
+
+
+TEXTS = {".md", ".txt", ".rt", ".antt", ".edit", ".rs", ".py", ".sh", ".h", ".c"}
 crates = {c.name: c for c in sorted((top / "crates").iterdir()) if (c / "src").is_dir()}
 edits = {f"{c}!{e.stem}" for c, folder in crates.items() for e in folder.glob("must-fail/*.edit")}
 text = (top / "docs/PROOF-MAP.md").read_text(encoding="utf-8")
@@ -67,5 +89,9 @@ for number, line in enumerate(text.splitlines(), 1):
         else:
             wrong.append(f"{number}: what is `{token}`?")
 wrong += [f"not in the map: {e}" for e in sorted(edits - seen)]
-print("\n".join(wrong) if wrong else f"{names} names, {len(edits)} must-fail edits: all there")
+required = requirements()
+wrong += [f"not in the map: {r}" for r in required if r not in cited(text)]
+for path in files():
+    wrong += [f"{path}: no requirement {r}" for r in sorted(cited(path.read_text(encoding="utf-8")) - set(required))]
+print("\n".join(wrong) if wrong else f"{names} names, {len(edits)} must-fail edits, {len(required)} requirements: all there")
 sys.exit(1 if wrong else 0)

@@ -1,6 +1,6 @@
 /*
- * A batch of payloads through the four calls of osdp.h: each is checked and normalised, what came out is printed, and compared with what is
- * expected. Exits 1 where something differs.
+ * Passes a batch of payloads to the four calls of osdp.h: each payload is checked and normalised, and the result is printed and compared with
+ * what is expected. Exits with 1 if something differs.
  */
 #include <stdio.h>
 #include <string.h>
@@ -19,14 +19,14 @@ struct trial {
     int is_reply;
     uint8_t code;
     struct bytes payload;
-    size_t filled_to;    /* where above 0: bytes 0x41 follow, up to this length */
-    size_t room_less;    /* the output buffer is so much shorter than the payload */
-    int32_t checked;     /* what check has to give */
-    int32_t normalised;  /* what normalise has to give */
-    struct bytes form;   /* what it has to write; empty: the payload's own first bytes */
+    size_t filled_to;    /* if above 0: bytes 0x41 follow, up to this length */
+    size_t room_less;    /* by how many bytes the output buffer is shorter than the payload */
+    int32_t checked;     /* what check has to return */
+    int32_t normalised;  /* what normalise has to return */
+    struct bytes form;   /* what normalise has to write; if empty, the payload's own first bytes */
 };
 
-/* The payloads to try of document 01, and the rows of its refusal table that these calls give. */
+/* The payloads to try (R8 of docs/REQUIREMENTS.md), and the rows of the refusal table that these calls give. */
 static const struct trial trials[] = {
     { .what = "LED, green over black, then red", .code = 0x69, .payload = BYTES(0, 0, 2, 5, 5, 2, 0, 0x64, 0, 1, 1, 0, 1, 1), .normalised = 14 },
     { .what = "LED, colour 8", .code = 0x69, .payload = BYTES(0, 0, 2, 5, 5, 8, 0, 0x64, 0, 1, 1, 0, 1, 1), .normalised = 14,
@@ -97,12 +97,12 @@ static const char *name_of(int32_t answer)
 }
 
 /*
- * How a controller calls the library. A frame has been received, its check and sequence have been looked at; code is the byte after the frame's
- * header, payload what follows it up to the check, payload_len from the frame's length field.
+ * How a controller calls the library. A frame has been received, and its check and sequence have been tested; code is the byte after the frame's
+ * header, payload is what follows it up to the check, and payload_len comes from the frame's length field.
  *
  * A controller that only wants to know whether to take the payload calls osdp_check_reply and reads from the receive buffer. One that stores or
  * forwards it normalises: what is written has no reserved colour, biometric type or format left, and two payloads that mean the same record
- * are the same bytes. out as long as the payload is always enough, so OSDP_NO_ROOM cannot come from a buffer of OSDP_LONGEST bytes.
+ * become the same bytes. A buffer as long as the payload is always enough, so one of OSDP_LONGEST bytes never gives OSDP_NO_ROOM.
  *
  *     uint8_t out[OSDP_LONGEST];
  *     int32_t n = osdp_normalise_reply(code, payload, payload_len, out, sizeof out);
@@ -111,7 +111,7 @@ static const char *name_of(int32_t answer)
  *     else
  *         store(out, (size_t)n);
  *
- * What the controller is about to send goes through osdp_check_command first; the device would refuse what that refuses.
+ * What the controller is about to send goes through osdp_check_command first; the device would refuse what this call refuses.
  */
 static int32_t check(int is_reply, uint8_t code, const uint8_t *payload, size_t len)
 {
@@ -135,7 +135,7 @@ static int written_as(const uint8_t *out, size_t size, const uint8_t *form, int3
     return 1;
 }
 
-/* Gives whether the trial went as expected. */
+/* Returns whether the trial went as expected. */
 static int run(const struct trial *t)
 {
     static uint8_t payload[OSDP_LONGEST + 1], out[OSDP_LONGEST + 1];
@@ -168,7 +168,7 @@ int main(void)
     for (i = 0; i < n; i++)
         good += (size_t)run(&trials[i]);
 
-    /* A pointer may be NULL where its length is 0. */
+    /* A pointer may be NULL if its length is 0. */
     if (osdp_check_reply(0x41, NULL, 0) != -OSDP_TOO_SHORT || osdp_normalise_reply(0x41, NULL, 0, NULL, 0) != -OSDP_TOO_SHORT)
         good = 0;
 

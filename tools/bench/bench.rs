@@ -60,7 +60,7 @@ mod beside {
     library!(beside_osdp_check_command beside_osdp_check_reply beside_osdp_normalise_command beside_osdp_normalise_reply);
 }
 
-// The Rust by the code byte, as the C calls are.
+// The Rust by code byte, like the C calls.
 
 fn decode_command(code: u8, p: &[u8], _: &mut [u8]) -> i32 {
     black_box(&CommandCode::from_byte(code).and_then(|c| Command::decode(c, p))).is_ok() as i32
@@ -112,7 +112,7 @@ fn copy(_: u8, p: &[u8], out: &mut [u8]) -> i32 {
     0
 }
 
-/// The loop that measures and a call of nothing: taken off every time.
+/// A call of nothing: its time, with that of the loop that measures, is subtracted from every other time.
 fn nothing(_: u8, _: &[u8], _: &mut [u8]) -> i32 {
     0
 }
@@ -150,7 +150,7 @@ fn payload(k: &Kind, n: usize, r: &mut Chance) -> Vec<u8> {
     normalised(k.side, k.code, &p).ok().expect("a good payload")
 }
 
-/// f is known at run time only, so that each call is made.
+/// f is known only at run time, so that each call is made.
 #[inline(never)]
 fn time(f: Call, code: u8, p: &[u8], out: &mut [u8], times: u32) -> Duration {
     let start = Instant::now();
@@ -190,7 +190,7 @@ fn compare_times(k: &Kind, p: &[u8], place: &mut [u8], room: &mut [u8]) {
     let times: Vec<u32> = calls.iter().map(how_often).collect();
     let mut took = vec![Vec::new(); calls.len()];
     for round in 0..ROUNDS {
-        // another place in its page each round: a copy is slow where both sides stand at nearly the same one
+        // another place in its page each round: a copy is slow if source and target have nearly the same place in their pages
         let (from, to) = (16 * (37 * round % 256), 16 * (91 * round % 256));
         place[from..][..n].copy_from_slice(p);
         for (i, &(_, f)) in calls.iter().enumerate() {
@@ -206,7 +206,7 @@ fn compare_times(k: &Kind, p: &[u8], place: &mut [u8], room: &mut [u8]) {
 
 fn main() {
     unsafe { placement() };
-    // glibc gives freed memory back to the system, at a high cost to the Rust, until a block of this size was freed once.
+    // glibc gives freed memory back to the system, at a high cost to the Rust, until a block of this size has been freed once.
     drop(black_box(vec![0u8; 16 << 20]));
     let counts = std::env::args().nth(1).is_some_and(|a| a == "count");
     let mut r = Chance::new(1);

@@ -1,7 +1,7 @@
 #!/usr/bin/env bash
 # Measures the C calls against the original Rust: run.sh [--docs] [--beside ARCHIVE] [SOURCES]
-# SOURCES as for tools/oracle/build.sh, which builds the original. Writes build/bench/PERFORMANCE.md and performance.svg, and with --docs
-# copies both to docs/. With --beside another build of the library is measured in the same rounds. RUNS=NUMBER sets how often (15).
+# SOURCES is as for tools/oracle/build.sh, which builds the original. Writes build/bench/PERFORMANCE.md and performance.svg, and with --docs
+# copies both to docs/. With --beside another build of the library is measured in the same rounds. RUNS=NUMBER sets the number of runs (15).
 set -eu
 here=$(cd "$(dirname "$0")" && pwd)
 root=$(cd "$here/../.." && pwd)
@@ -31,7 +31,7 @@ if [ -n "$beside" ]; then
     other=(--cfg beside -C link-arg="$out/beside.a")
 fi
 
-# Two binaries, whose code differs in its place alone.
+# Two binaries, which differ only in the place of their code.
 build() {
     rustc --edition 2021 -C opt-level=3 -C codegen-units=1 -D warnings --check-cfg 'cfg(shifted, beside)' --crate-name bench \
         -L "$root/build/oracle" --extern osdp --extern judge -C link-arg="$lib" "${other[@]}" "$@" "$here/bench.rs"

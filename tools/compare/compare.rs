@@ -1,6 +1,6 @@
 //! The four C calls against the original Rust, in one process: compare [SEED]
-//! README.md says what is tried. Exits 1 where an answer or a byte differs, where a kind was never accepted, and where a row that a kind can
-//! give never occurred.
+//! README.md says what is tried. Exits with 1 if an answer or a byte differs, a forbidden page is touched, a kind was never accepted, or a row that
+//! a kind can give never occurred or one that it cannot give did.
 mod guarded;
 
 use guarded::Region;
@@ -20,10 +20,10 @@ const SEED: u64 = 0x05D9_2026;
 const SHOWN: u64 = 10;
 const NO_ROOM: usize = 15;
 const ROWS: [usize; 13] = [1, 2, 3, 4, 5, 6, 7, 8, 9, 10, 14, NO_ROOM, 28];
-/// Lengths by chance for each kind, six payloads each.
+/// How many lengths are drawn by chance for each kind; each makes six payloads.
 const BY_CHANCE: usize = 50_000;
 
-/// How often a kind, or all bytes that are no carried kind's, gave what.
+/// How often each outcome occurred for a kind, or for all code bytes that no carried kind has.
 #[derive(Clone, Copy, Default)]
 struct Count {
     payloads: u64,
@@ -86,7 +86,7 @@ impl Run {
         }
     }
 
-    /// One buffer of so many bytes. `form` is what is to be written, empty where the call is to refuse.
+    /// Normalises into a buffer of `room` bytes. `form` is what has to be written, empty if the call has to refuse.
     fn normalise(&mut self, code: u8, at: *const u8, p: &[u8], room: usize, want: i32, form: &[u8]) {
         let fill = &self.pattern[self.turn % 251..][..room + 16];
         let front = self.turn % 8 == 0;
@@ -150,7 +150,7 @@ impl Run {
         c.rows[row] += 1;
     }
 
-    /// Every payload of 0 to 2 bytes for every code byte; and every code byte with ones that are too long.
+    /// For every code byte, every payload of 0 to 2 bytes, and zeroes with each length within 2 of the longest.
     fn every_short_one(&mut self) {
         let long = vec![0; LONGEST + 2];
         for code in 0..=255 {
@@ -167,8 +167,8 @@ impl Run {
         }
     }
 
-    /// Every length from 0 to 2 past the longest: a good payload where the kind has one of that length, and one by chance; near a boundary
-    /// and below 600 also zeroes, 0xFF, and a good one with a byte cut off, added or changed.
+    /// Every length from 0 to 2 past the longest: a good payload if the kind has one of that length, and one by chance; near a boundary
+    /// and below 600 also zeroes, 0xFF, and four damaged ones.
     fn every_length(&mut self, k: &Kind, r: &mut Chance) {
         for n in 0..=LONGEST + 2 {
             if k.near(n) == n {

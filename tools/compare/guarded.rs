@@ -1,4 +1,4 @@
-//! Memory between two pages that may not be touched. Touching one ends the process, with the payload that did it.
+//! Memory between two pages that must not be touched. Touching one ends the process, and prints the payload that each side was at.
 use judge::kinds::Side;
 use std::ffi::c_void;
 use std::sync::atomic::{AtomicU64, Ordering};

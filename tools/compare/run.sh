@@ -1,6 +1,6 @@
 #!/usr/bin/env bash
 # Builds and runs the comparison of the four C calls with the original Rust: run.sh [SOURCES [SEED]]
-# SOURCES as for tools/oracle/build.sh, which builds the original; an empty one is the default. Everything goes to build/.
+# SOURCES is as for tools/oracle/build.sh, which builds the original; if it is empty, the default is used. Everything goes to build/.
 set -eu
 here=$(cd "$(dirname "$0")" && pwd)
 root=$(cd "$here/../.." && pwd)

@@ -1,10 +1,9 @@
 #!/usr/bin/env python3
-"""Runs inspect on inputs of every sort: inputs.py PROGRAM [SOURCES]
+"""Runs inspect on inputs of every sort: inputs.py PROGRAM
 
-Bad lines and bad files, each with what inspect has to say of it; every code of every table, whose names are read from the original Rust in
-SOURCES (by default ../shared/docs/src beside the repository); every code byte, since a kind has to have a name; payloads of the greatest
-lengths; and, for its speed, many short lines.
-Exits with 1 where something differs.
+Bad lines and bad files, each with what inspect has to say of it; every code byte, since a code of the tables has to have a name (tools/names.py
+shows that it is the Rust's); payloads of the greatest lengths; and, for its speed, many short lines.
+Exits with 1 if something differs.
 """
 import re
 import subprocess
@@ -15,10 +14,6 @@ from pathlib import Path
 
 top = Path(__file__).resolve().parent.parent.parent
 program = sys.argv[1]
-given = Path(sys.argv[2] if len(sys.argv) > 2 and sys.argv[2] else top / "../shared/docs/src")
-sources = given if (given / "command").is_dir() else given / "src"
-if not (sources / "command/led.rs").exists():
-    sys.exit(f"the original Rust is not in {given}: fetch the repository Quantumlyy/osdp-rs at commit 8e2b7c7df1, put its files there, or give their folder")
 failures = 0
 runs = 0
 
@@ -42,17 +37,22 @@ def bad(text, message):
     expect(text[:40], said, f"line 1, {message}\nline 2: reply B1 XRD, length 1\n  mode 5\n  payload:\nread 1, refused 0, bad lines 1\n")
 
 
-WORD = "the line has to begin with command or reply"
+WORD = "column 1: the line has to begin with command or reply, not with"
 CODE = "the code byte has to have two hex digits"
 HALF = "half a byte, its second hex digit is missing"
 for text, message in [
-    (b"commands 69", f"column 9: {WORD}"),
-    (b"COMMAND 69", f"column 1: {WORD}"),
-    (b"xcommand 69", f"column 9: {WORD}"),
-    (b"replycommand 69", f"column 13: {WORD}"),
-    (b"comm\0and 69", f"column 5: {WORD}"),
-    (b"69 00", f"column 1: {WORD}"),
-    (b"comm", f"column 5: {WORD}"),
+    (b"commands 69", f"{WORD} commands"),
+    (b"COMMAND 69", f"{WORD} COMMAND"),
+    (b"xcommand 69", f"{WORD} xcommand"),
+    (b"replycommand 69", f"{WORD} replycommand"),
+    (b"\0command 69", f"{WORD} .command"),
+    (b"\0reply 69", f"{WORD} .reply"),
+    (b"comm\0and 69", f"{WORD} comm.and"),
+    (b"69 00", f"{WORD} 69"),
+    (b"comm", f"{WORD} comm"),
+    (b"command#69", f"{WORD} command#69"),
+    (b"c" * 30 + b" 69", f"{WORD} " + "c" * 20),
+    (b" \t69", f"{WORD} 69".replace("column 1", "column 3")),
     (b"command", "column 8: no code byte after the word"),
     (b"reply  # 50", "column 8: no code byte after the word"),
     (b"command 6", f"column 10: {CODE}"),
@@ -85,34 +85,14 @@ spelt = inspect(b"reply 50 00 00 1A 00 12 34 56 80\n")
 for other in [b"reply 50 00001a0012345680", b"\treply\t50\t00001A00 12345680\r\n", b"  reply 50  0000 1A00123456 80 # tag"]:
     expect(other, inspect(other), spelt)
 
-
-def table(file, enum):
-    """Number and name of each code of an enum of the Rust."""
-    body = re.search(rf"pub enum {enum} \{{(.*?)\n\}}", (sources / file).read_text(encoding="utf-8"), re.S).group(1)
-    found = re.findall(r"^\s*(\w+) = (0x[0-9A-Fa-f]+|\d+),", body, re.M)
-    assert found, enum
-    return [(int(number, 0), name) for name, number in found]
-
-
-for file, enum, line, wanted in [
-    ("command/led.rs", "LedColor", "command 69 0000000000{0:02X}000000000000{0:02X}00", "on_color {0} {1}, off_color 0 Black"),
-    ("command/output.rs", "OutputControlCode", "command 68 00{0:02X}0000", "output 0, code {0} {1}, timer 0"),
-    ("command/text.rs", "TextCommand", "command 6B 00{0:02X}00000000", "reader 0, command {0} {1}, temp_time_s 0"),
-    ("command/biometric.rs", "BioType", "command 73 00{0:02X}0100", "reader 0, bio_type {0} {1}, bio_format 1"),
-    ("command/biometric.rs", "BioFormat", "reply 57 0001{0:02X}000000", "bio_type 1 RightThumb, bio_format {0} {1}, quality 0"),
-    ("reply/nak.rs", "NakErrorCode", "reply 41 {0:02X}", "  error {0} {1}\n"),
-]:
-    for number, name in table(file, enum):
-        said, _ = inspect(line.format(number, name).encode())
-        expect(f"{enum} {number}", (wanted.format(number, name) in said, "read 1," in said), (True, True))
-
-# a title without a name is that of a code that has no kind: every kind has its row
+# a title has a name exactly if its code is in a table
 said, _ = inspect("".join(f"{side} {code:02X}\n" for side in ("command", "reply") for code in range(256)).encode())
-expect("a kind without a name", re.findall(r"line \d+: \w+ .., length 0\n(?!  refused, row (?:1|2|14) )", said), [])
+expect("codes without a name", len(re.findall(r"line \d+: \w+ .., length 0\n  refused, row [12] ", said)), 512 - 26 - 25)
+expect("codes with a name", len(re.findall(r"line \d+: \w+ .. [A-Z]+, length 0\n(?!  refused, row [12] )", said)), 26 + 25)
 
 said, _ = inspect(b"command 80 " + b"00" * 65546 + b"\ncommand 80 " + b"00 " * 65547)
 expect("the longest payload", said.splitlines()[2], "  payload:" + " 00" * 65543)
-expect("a payload that is too long", said.splitlines()[3:], ["line 2: command 80, length 65547", "  refused, row 28 (65546, 65547): payload too long (longest, got)", "read 1, refused 1, bad lines 0"])
+expect("a payload that is too long", said.splitlines()[3:], ["line 2: command 80 MFG, length 65547", "  refused, row 28 (65546, 65547): payload too long (longest, got)", "read 1, refused 1, bad lines 0"])
 said, _ = inspect(b"command 68 " + b"03050A00" * 16386)
 expect("the last record", said.splitlines()[-2:], ["  record 16385 at offset 65540: output 3, code 5 TemporaryOnResume, timer 10", "read 1, refused 0, bad lines 0"])
 said, _ = inspect(b"reply 50 0000FFFF" + b"A5" * 8192)

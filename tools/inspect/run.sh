@@ -1,6 +1,6 @@
 #!/usr/bin/env bash
 # Runs inspect on the sample payloads: run.sh
-# Prints what it says, and fails where that is not crates/inspect/stdout, or where README.md shows lines that are not in it.
+# Prints what it says, and fails if that is not crates/inspect/stdout, or if README.md shows lines that are not in it.
 set -euo pipefail
 root=$(cd "$(dirname "$0")/../.." && pwd)
 sample=$root/crates/inspect

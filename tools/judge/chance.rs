@@ -1,4 +1,4 @@
-//! Numbers by chance, the same for the same seed.
+//! Numbers by chance; the same seed gives the same numbers.
 use crate::kinds::LONGEST;
 
 /// xorshift64*
@@ -33,7 +33,7 @@ impl Chance {
         v
     }
 
-    /// A length: most are short, one in two hundred is any.
+    /// A length: most are short, one in two hundred can be any.
     pub fn size(&mut self) -> usize {
         let below = match self.below(200) {
             0 => LONGEST + 2,
@@ -44,7 +44,7 @@ impl Chance {
         self.below(below)
     }
 
-    /// Up to n as a rule, any byte now and then.
+    /// Usually a byte up to n, sometimes any byte.
     pub fn mostly_up_to(&mut self, n: u8) -> u8 {
         if self.below(6) == 0 { self.byte() } else { self.from_to(0, n) }
     }

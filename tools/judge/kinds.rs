@@ -1,4 +1,4 @@
-//! The kinds of tools/kinds.txt, whose head describes the columns. A line that is none stops the program.
+//! The kinds of tools/kinds.txt, whose head describes the columns. A line that is not a kind stops the program.
 use std::sync::LazyLock;
 
 /// The longest payload that the calls by code byte take.
@@ -30,15 +30,15 @@ pub enum Field {
     Code(u8, u8),
     /// A byte up to this one; a higher one is read as 0.
     Folded(u8),
-    /// The tail's bytes, counted in so many bytes; no field of the record.
+    /// How many bytes the tail has, in a number of so many bytes; not a field of the record.
     Length(usize),
-    /// The same; a field of the record.
+    /// How many bytes the tail has, in a number of so many bytes; a field of the record.
     Count(usize),
-    /// The tail's bits, counted in two bytes; a field of the record.
+    /// How many bits the tail has, in a number of two bytes; a field of the record.
     Bits,
     Text,
     Tail,
-    /// A tail that is cut where the payload's first byte is another than this.
+    /// A tail that is cut off if the payload's first byte is not this one.
     TailAfter(u8),
 }
 
@@ -61,7 +61,7 @@ impl Field {
         })
     }
 
-    /// Bytes before the tail.
+    /// How many bytes of the field are before the tail.
     pub fn width(self) -> usize {
         match self {
             Field::Any(n) | Field::Length(n) | Field::Count(n) => n,
@@ -71,7 +71,7 @@ impl Field {
         }
     }
 
-    /// The most bytes that the tail can have by this field.
+    /// The most bytes that this field lets the tail have.
     fn most_tail(self) -> Option<usize> {
         match self {
             Field::Length(n) | Field::Count(n) => Some((1 << (8 * n)) - 1),
@@ -114,7 +114,7 @@ impl Kind {
         if k.lengths() == (k.least, k.most) { Ok(k) } else { Err("least, most and step are not what the layout makes") }
     }
 
-    /// Least and most, by the layout.
+    /// The least and the greatest length, by the layout.
     fn lengths(&self) -> (usize, usize) {
         let least = self.fields.iter().map(|f| f.width()).sum();
         let tail = self.fields.iter().filter_map(|f| f.most_tail()).min().unwrap_or(0);
@@ -126,7 +126,7 @@ impl Kind {
         (least, most)
     }
 
-    /// Offsets of the bytes that are folded, with the highest value that is not; in each record of a list.
+    /// Offsets of the bytes that are folded, each with the highest value that is not; for a list, the offsets in each record.
     pub fn limits(&self) -> impl Iterator<Item = (usize, u8)> + '_ {
         let mut at = 0;
         self.fields.iter().filter_map(move |f| {
@@ -135,7 +135,7 @@ impl Kind {
         })
     }
 
-    /// The first byte that has to stand before a tail that is not cut.
+    /// The first byte that a payload has to have if its tail is not to be cut off.
     pub fn kept_after(&self) -> Option<u8> {
         self.fields.iter().find_map(|f| if let Field::TailAfter(first) = *f { Some(first) } else { None })
     }
@@ -151,7 +151,7 @@ pub static KINDS: LazyLock<Vec<Kind>> = LazyLock::new(|| {
     crate::lines(include_str!("../kinds.txt")).map(parsed).collect()
 });
 
-/// None: no carried kind.
+/// None if no carried kind has the code.
 pub fn kind(side: Side, code: u8) -> Option<&'static Kind> {
     KINDS.iter().find(|k| k.side == side && k.code == code)
 }

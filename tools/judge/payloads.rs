@@ -1,4 +1,4 @@
-//! Payloads of a kind, by chance.
+//! Payloads of a kind, drawn by chance.
 use crate::chance::Chance;
 use crate::kinds::{Field, Kind, LONGEST};
 
@@ -6,13 +6,13 @@ use crate::kinds::{Field, Kind, LONGEST};
 const EDGES: [u8; 18] = [0, 1, 2, 3, 4, 5, 6, 7, 8, 9, 10, 0x11, 0x12, 0x1F, 0x20, 0x7E, 0x7F, 0xFF];
 
 impl Kind {
-    /// The nearest length below, or the least, that a payload can have.
+    /// The greatest length up to n that a payload can have, or the least length if n is below it.
     pub fn near(&self, n: usize) -> usize {
         let n = n.clamp(self.least, self.most);
         n - n % self.step
     }
 
-    /// Lengths where an answer can turn.
+    /// Lengths at which an answer can change.
     pub fn edges(&self) -> [usize; 3] {
         [self.least, self.most, LONGEST]
     }
@@ -25,7 +25,7 @@ impl Kind {
         p
     }
 
-    /// Sets what may not have any value.
+    /// Sets the fields that must not have just any value.
     fn set_fields(&self, p: &mut [u8], r: &mut Chance) {
         let tail = p.len() - self.least;
         let mut at = 0;
@@ -50,7 +50,7 @@ impl Kind {
         }
     }
 
-    /// An edge in the fixed part, a bit turned, a byte cut out, one put in.
+    /// Copies with an edge value in the fixed part, with a bit turned, with a byte cut out, and with a byte put in.
     pub fn damaged(&self, p: &[u8], r: &mut Chance) -> [Vec<u8>; 4] {
         let [mut edge, mut turned, mut less, mut more] = [p.to_vec(), p.to_vec(), p.to_vec(), p.to_vec()];
         let at = r.below(p.len().min(self.least + 4));

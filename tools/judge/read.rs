@@ -1,4 +1,4 @@
-//! A payload, read by its code byte: the original's answer, and rows 14 and 28, for which it has no counterpart.
+//! Reads a payload by its code byte: the original's answer, and rows 14 and 28, for which it has no counterpart.
 use crate::kinds::{kind, Side, LONGEST};
 use crate::refusal::{refusal, Refusal};
 use osdp::command::{Command, CommandCode};
@@ -19,7 +19,7 @@ impl Record {
     }
 }
 
-/// For a code of the table.
+/// Rows 14 and 28, for a code of the table.
 fn added(side: Side, code: u8, len: usize) -> Result<(), Refusal> {
     match kind(side, code) {
         None => Err(Refusal { row: 14, code, first: 0, second: 0 }),
@@ -28,7 +28,7 @@ fn added(side: Side, code: u8, len: usize) -> Result<(), Refusal> {
     }
 }
 
-/// The original alone, as a kind's own calls are, which know no longest payload.
+/// The original alone. Like a kind's own calls, it has no limit on the payload's length.
 pub fn read_of_kind(side: Side, code: u8, p: &[u8]) -> Result<Record, Refusal> {
     match side {
         Side::Command => CommandCode::from_byte(code).and_then(|c| Command::decode(c, p)).map(Record::Command),

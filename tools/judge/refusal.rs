@@ -1,4 +1,4 @@
-//! Rows of document 01's refusal table for the errors of the original.
+//! Rows of the refusal table (R7 of docs/REQUIREMENTS.md) for the errors of the original.
 use osdp::error::Error;
 use std::sync::LazyLock;
 

@@ -14,14 +14,14 @@ pub enum Case {
     Table(usize, u8),
     /// One of GUARDS, its number, code byte and data.
     Guard(usize, usize, u8, Vec<u8>),
-    /// A payload, by all calls for it, or by those of its kind alone, which know no longest payload.
+    /// A payload, by all calls for it, or only by those of its kind, which have no limit on the payload's length.
     Payload { side: Side, of_kind: bool, code: u8, payload: Vec<u8> },
     /// A record made by hand, to be written.
     Write { side: Side, code: u8, fixed: Vec<u8>, tail: Vec<u8> },
     Bits(u16, Vec<u8>),
     /// Record k of a list.
     Record { code: u8, k: usize, payload: Vec<u8> },
-    /// A walker that is started, or one that stands at a place.
+    /// A walker that is started, or one that is made at a place.
     Walk { place: Option<usize>, payload: Vec<u8> },
     /// The OUT record that starts at a place.
     ReadAt { place: usize, payload: Vec<u8> },

@@ -1,6 +1,6 @@
 #!/usr/bin/env bash
 # Builds the original Rust, unchanged, with rustc alone, and the driver over it: build.sh [SOURCES]
-# SOURCES: a checkout of the original, or its folder src (default ../shared/docs/src beside the repository).
+# SOURCES: a checkout of the original, or its folder src (default ../shared/docs/src next to the repository).
 # Writes build/oracle/libosdp.rlib and build/oracle/oracle.
 set -eu
 here=$(cd "$(dirname "$0")" && pwd)
@@ -21,7 +21,7 @@ mkdir -p "$out/src"
 cp -r "$from/." "$out/src/"
 (cd "$out/src" && sha256sum --quiet --ignore-missing -c "$here/sources.sha256") ||
     echo "$0: note: these files are not those that the stored vectors were made with" >&2
-# Stand-ins for what the carried text lacks: data alone, no behaviour.
+# Stand-ins for what the carried text lacks: only data, no behaviour.
 cp "$here/shim/lib.rs" "$here/shim/error.rs" "$out/src/"
 cp "$here/shim/reply_mfg.rs" "$out/src/reply/mfg.rs"
 flags='--edition 2021 -C opt-level=3 -C codegen-units=1'

@@ -1,7 +1,7 @@
 //! The oracle: one case a line on standard input.
 //!   oracle          one answer a line
 //!   oracle pack     the cases with their answers, in the vector format
-//!   oracle paper    lines `CASE => WORDS`: whether each answer begins with these words
+//!   oracle examples    lines `CASE => WORDS`: whether each answer begins with these words
 //! README.md has the forms of cases and answers.
 mod answer;
 mod model;
@@ -111,7 +111,7 @@ fn answered(number: usize, line: &str) -> (Case, Answer) {
 }
 
 fn main() {
-    // read before panics are made silent
+    // read before panics are made silent, so that a malformed line is reported
     std::sync::LazyLock::force(&KINDS);
     std::panic::set_hook(Box::new(|_| {}));
     let mode = std::env::args().nth(1).unwrap_or_default();
@@ -131,7 +131,7 @@ fn main() {
                 pack::pack(&mut packed, &mut tally, &case, &answer);
                 out.write_all(&packed).unwrap_or_else(|e| stop(&e.to_string()));
             }
-            "paper" => {
+            "examples" => {
                 if !text(&answer).starts_with(words) {
                     wrong += 1;
                     eprintln!("line {number}: {:.80}: {:.80}, not {words}", line, text(&answer));

@@ -95,8 +95,8 @@ def case(kind, payload):
     return f"{kind.side} {kind.code:02X} {spell(payload)}"
 
 
-def paper():
-    for line in (Path(__file__).parent / "paper.txt").read_text(encoding="utf-8").splitlines():
+def examples():
+    for line in (Path(__file__).parent / "examples.txt").read_text(encoding="utf-8").splitlines():
         if line and not line.startswith("#"):
             yield line.split(" => ")[0]
 
@@ -169,14 +169,14 @@ def by_code():
 
 
 def limits():
-    # RAW of 65,535 bits has 8,192 bytes of them
+    # the 65,535 bits of a RAW take 8,192 bytes
     for n in (8191, 8192, 8193):
         yield f"reply 50 0000FFFF+A5*{n}"
     # u16 lengths at their end, and one off
     for what, code, head in (("command", 0x74, "00010132"), ("reply", 0x57, "00010132"), ("command", 0x7C, "01" + "FF" * 8)):
         for field, n in ((65534, 65534), (65535, 65534), (65535, 65535), (65535, 65536)):
             yield f"{what} {code:02X} {head}{u16(field).hex().upper()}+EE*{n}"
-    # the longest payload for the calls by code, and a longer one for the calls of a kind, which know no longest
+    # the longest payload for the calls by code, and a longer one for the calls of a kind, which have no limit on the length
     for kind in KINDS:
         fill = f"{kind.kept_after or 0:02X}"
         longest, longer = case(kind, f"{fill}*{LIMIT}"), case(kind, f"{fill}*{LIMIT + 1}")
@@ -305,7 +305,7 @@ def places(scale):
 
 
 def cases(scale):
-    yield from paper()
+    yield from examples()
     yield from tables()
     yield from guards()
     yield from by_code()

@@ -10,7 +10,7 @@ pub const END: u8 = 255;
 const ALL: usize = 0;
 const BY_CODE: usize = 1;
 const OF_KIND: usize = 2;
-/// Runs shorter than this are stored as they are.
+/// Up to this many bytes are stored as they are.
 const SHORT: usize = 64;
 
 /// One byte below 255, or 255 and then eight bytes.
@@ -24,7 +24,7 @@ fn number(out: &mut Vec<u8>, n: usize) {
     }
 }
 
-/// How many bytes are stored, and the byte that stands for the rest.
+/// How many bytes are stored, and the byte that each of the rest is.
 fn cut(bytes: &[u8]) -> (usize, u8) {
     match bytes.last() {
         Some(&last) if bytes.len() > SHORT => (bytes.iter().rposition(|&b| b != last).map_or(0, |at| at + 1), last),
@@ -51,7 +51,7 @@ fn joined(kind: &Kind, fixed: &[u8], tail: &[u8]) -> Vec<u8> {
     [fixed, &tail.len().to_le_bytes()[..wide], tail].concat()
 }
 
-/// What occurred: cases by class, refusals by row, accepted ones by class and code.
+/// What occurred: the number of cases, cases by row, and accepted cases by class and code.
 #[derive(Default)]
 pub struct Tally {
     cases: usize,
@@ -110,12 +110,12 @@ impl Tally {
         }
     }
 
-    /// The end of a stream: how many cases stand before it.
+    /// The end of a stream: how many cases come before it.
     pub fn end(&self, out: &mut Vec<u8>) {
         put(out, END, 0, self.cases, &[], Refusal { row: 0, code: 0, first: 0, second: 0 }, &[]);
     }
 
-    /// Says what occurred, and whether each row occurred and each kind was read and written.
+    /// Says what occurred, and returns whether each row occurred and each kind was read and written.
     pub fn report(&self) -> bool {
         let rows: Vec<String> = self.rows.iter().map(|(row, n)| format!("{row}: {n}")).collect();
         eprintln!("{} cases; by row, 0 for none: {}", self.cases, rows.join(", "));

@@ -1,5 +1,5 @@
--- osdp_BIOREADR (0x57), §7.14: reader, type, format, quality, length u16, sample: BIOMATCH's layout.
--- osdp_BIOMATCHR (0x58), §7.15: reader, result, score.
+-- osdp_BIOREADR (0x57), R4.10, §7.14: reader, type, format, quality, length u16, sample. This is the layout of BIOMATCH.
+-- osdp_BIOMATCHR (0x58), R4.11, §7.15: reader, result, score.
 use Rattle.payload_util.specs.Prelude.{[], _∷_, byteAt, exactLen, nothing, Outcome, gives, refuses, Form, fixed}
 use Rattle.payload_util.specs.declared.Guard.the-variants.{Pass}
 use Rattle.biometric.specs.Biometric.{templated}

@@ -11,7 +11,7 @@ use payload_util::tail_where;
 ghost use Rattle.payload_util.specs.Prelude.{_≡_, _≤_, length, check, fields, read, tail, write, normalise};
 ghost use Rattle.bio.specs.Bio.{bioReadROutcome, bioMatchROutcome, bioReadR, bioMatchR};
 
-// osdp_BIOREADR: the sample's type, format and quality. The sample is the tail; its layout is BIOMATCH's.
+// osdp_BIOREADR: the sample's type, format and quality. The sample is the tail; the layout is that of BIOMATCH.
 pub struct BioReadR {
     pub head: BioHead,
 }
@@ -41,7 +41,7 @@ impl BioReadR {
         }
     }
 
-    // The sample, a template or raw; nothing where reading refuses.
+    // The sample, a template or raw; empty if reading refuses.
     pub fn data(p: &[u8]) -> &[u8]
         ensures { λ r. ⌜ now r ≡ tail bioReadR (now (p .entry)) ⌝ }
     {
@@ -62,7 +62,7 @@ impl BioReadR {
     }
 }
 
-// osdp_BIOMATCHR: result 0 is no match, 1 a match; any byte is taken.
+// osdp_BIOMATCHR: result 0 is no match, 1 a match; any byte is accepted.
 pub struct BioMatchR {
     pub reader: u8,
     pub result: u8,

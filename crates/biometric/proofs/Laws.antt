@@ -1,8 +1,9 @@
--- The biometric head, a head with a template under any code, and the part of BIOREAD and BIOMATCH in demand 3.
+-- The biometric head, a head with a template under any code, and the laws of BIOREAD and BIOMATCH.
 -- Assumes nothing.
 use mathlib.Core.Path.{_≡_, refl, sym, ap, _∙_}
 use mathlib.Core.List.{List, [], _∷_, _++_}
 use Prim.Native.Nat.{ℕ, _≤_}
+use native.Mathlib.Nat.{mod-add-div}
 use native.Mathlib.Omega.{arith}
 use lib.ListN.{length, drop}
 use Rattle.payload_util.specs.Bytes.{Bytes, byteAt, u16At, u16Bytes}
@@ -14,7 +15,7 @@ use Rattle.payload_util.specs.Form.{read}
 use Rattle.payload_util.specs.declared.Refusal.{Refusal}
 use Rattle.payload_util.specs.declared.Guard.{Guard}
 use Rattle.payload_util.specs.declared.Guard.the-variants.{Pass, Refused}
-use Rattle.payload_util.proofs.Guards.{exact-pass, head-and-tail-pass, gives-pass}
+use Rattle.payload_util.proofs.Guards.{exact-pass, head-and-tail-pass, pass-head-and-tail, gives-pass}
 use Rattle.payload_util.proofs.InOrder.{also-none}
 use Rattle.payload_util.proofs.Limits.{limitAt, by-limits}
 use Rattle.payload_util.proofs.Words.{fits-word, low-byte, high-byte}
@@ -29,14 +30,14 @@ use Rattle.biometric.specs.Biometric.{highestType, highestFormat, headOf
 use Rattle.biometric.specs.Biometric.{bioRead, bioMatch}
 use Rattle.biometric.proofs.Codes.{bio-type-back, bio-format-back, bio-type-kept, bio-format-kept}
 
--- a refusal is given where a check refuses
+-- a refusal is given only if a check refuses
 refuses-refused : {A : Type 0} (g : Guard) (a : A) (e : Refusal) → outcome g a ≡ refuses e → g ≡ Refused e
 refuses-refused Pass a e h = cc
 refuses-refused (Refused r) a e h = cc
 
 -- ---- the head
 
--- its limits are two: type and format
+-- it has two limits: type and format
 pub head-limits : (number code : ℕ) (p : List ℕ)
     → (limitAt number code highestType p 1 also limitAt number code highestFormat p 2) ≡ withinLimits number code bioLoss p
 unfolding inOrder
@@ -49,7 +50,7 @@ head-folded (a ∷ []) = refl
 head-folded (a ∷ b ∷ []) = refl
 head-folded (a ∷ b ∷ d ∷ p) = refl
 
--- written anew before the rest of the payload, it is the payload without what is lost
+-- the head, written again in front of the rest of the payload, gives the payload without what is lost
 pub head-kept : (p : List ℕ) → Bytes p → 4 ≤ length p → headBytes (headOf p) ++ drop 4 p ≡ without bioLoss p
 head-kept p b h =
     by-head 4 p (keep bioLimits) h (simp (bio-type-kept (byteAt p 1) (b 1), bio-format-kept (byteAt p 2) (b 2)))
@@ -64,7 +65,7 @@ bio-read-law =
     (λ p b g.
     let e = exact-pass 4 _ p g in
     rw (ended 4 p e) at (head-kept p b (omega arith)))
-    (λ p b g. refl) (λ r w. ap (λ (h : BioHead). record { head = h }) (head-back (r .head) [])) (λ p g. simp length-keep g)
+    (λ p b g. refl) (λ r w. ap (λ (h : BioHead). record { head = h }) (head-back (r .head) [])) (λ p g. simp length-keep g) (λ r w. refl)
 
 -- ---- a head with a template, under any code
 
@@ -86,6 +87,10 @@ module _ (code : ℕ) (p : List ℕ) (g : checkTemplate code p ≡ Pass) where
       let same : u16At (keep bioLimits p) 4 ≡ u16At p 4 = sym (by-head 6 p (λ q. u16At (keep bioLimits q) 4) (template-pass .0) refl) in
       simp (length-keep, same) g
 
+template-written : (code : ℕ) (h : BioHead) (t : List ℕ) → checkTemplate code (headBytes h ++ u16Bytes (length t) ++ t) ≡ Pass
+unfolding checkTemplate
+template-written code h t = pass-head-and-tail 6 code _ _ (omega (arith, mod-add-div (length t) 256))
+
 -- A record whose one field is a head: BIOMATCH, and BIOREADR in crate bio.
 module _ {A : Type 0} (wrap : BioHead → A) (head : A → BioHead) (there : (h : BioHead) → head (wrap h) ≡ h) (back : (a : A) → wrap (head a) ≡ a)
     (code : ℕ) where
@@ -96,12 +101,13 @@ module _ {A : Type 0} (wrap : BioHead → A) (head : A → BioHead) (there : (h 
       let h = template-pass code p g .0 in
       simp (there, length-kept code p g b) (head-kept p b (omega arith)))
       (λ p b g. template-fits code p g b)
-      (λ a t w. ap wrap (head-back (head a) (u16Bytes (length t) ++ t)) ∙ back a) (λ a t. refl) (template-steady code)
+      (λ a t w. ap wrap (head-back (head a) (u16Bytes (length t) ++ t)) ∙ back a) (λ a t. refl) (λ p u. refl) (template-steady code)
+      (λ a t w. template-written code (head a) t)
 
 pub bio-match-law : Law bioMatch
 bio-match-law = template-law (λ h. record { head = h }) (λ m. m .head) (λ h. refl) (λ m. refl) _
 
--- The reader of such a record: x is what reading the head gave, and is wrapped, or its refusal handed on.
+-- The reader of such a record: x is what reading the head gave; a head is wrapped, and a refusal is handed on.
 module _ {A : Type 0} (wrap : BioHead → A) (code : ℕ) (p : List ℕ) {x : BioHeadRead} (is : headOutcome x ≡ read (headed code) p) where
   pub wrapped : {h : BioHead} → x ≡ Read h → gives (wrap h) ≡ outcome (checkTemplate code p) (wrap (headOf p))
   wrapped {h} e =

@@ -1,5 +1,5 @@
--- osdp_BIOREAD (0x73), §6.14: reader, type, format, quality.
--- osdp_BIOMATCH (0x74), §6.15: the same four, length u16, template.
+-- osdp_BIOREAD (0x73), R4.4, §6.14: reader, type, format, quality.
+-- osdp_BIOMATCH (0x74), R4.5, §6.15: the same four fields, length u16, template.
 use Rattle.payload_util.specs.Prelude.{List, [], _∷_, _++_, ℕ, length, drop, byteAt, u16At, u16Bytes, exactLen, headAndTail, atMost}
 use Rattle.payload_util.specs.Prelude.{named, Keep, any, upTo, Loss, above, Outcome, gives, refuses, Form, fixed, tailed}
 use Rattle.payload_util.specs.declared.{Guard.Guard, Guard.the-variants.Pass}
@@ -12,7 +12,7 @@ use Rattle.biometric.specs.declared.{BioType.BioType, BioFormat.BioForma
 use Rattle.biometric.specs.declared.BioType.the-variants.{NotSpecified, RightThumb, RightIndex, RightMiddle, RightRing, RightLittle, LeftThumb, LeftIndex, LeftMiddle, LeftRing, LeftLittle, RightIris, RightRetina, LeftIris, LeftRetina, Face, RightHandGeometry, LeftHandGeometry}
 use Rattle.biometric.specs.declared.BioFormat.the-variants.{NotSpecified as NoFormat, FingerprintRawPgm, FingerprintAnsi378}
 
--- Table 24
+-- Table 24, R3.5
 abbrev pub bioTypeByte : BioType → ℕ
 bioTypeByte NotSpecified = 0x00
 bioTypeByte RightThumb = 0x01
@@ -46,7 +46,7 @@ bioTypeOf b = named bioTypeByte (λ c. c) NotSpecified bioTypes b
 abbrev pub highestType : ℕ
 highestType = 0x11
 
--- Table 25
+-- Table 25, R3.6
 abbrev pub bioFormatByte : BioFormat → ℕ
 bioFormatByte NoFormat = 0x00
 bioFormatByte FingerprintRawPgm = 0x01
@@ -79,7 +79,7 @@ bioLoss = above bioLimits
 unfoldable pub checkTemplate : ℕ → List ℕ → Guard
 checkTemplate code p = headAndTail 6 (u16At p 4) code p
 
--- the row of a record that holds a head: rows 4 and 6 of a payload, row 12 of a record
+-- a kind whose record holds a head: a payload is refused by rows 4 and 6, a record by row 12
 abbrev pub templated : {A : Type 0} → ℕ → (BioHead → A) → (A → BioHead) → Form
 templated code wrap head = tailed (record {
   code = code;

@@ -1,4 +1,5 @@
 // osdp_BIOREAD (0x73), take a biometric sample, and osdp_BIOMATCH (0x74), match a sample with a template.
+use payload_util::FOLDED;
 use payload_util::Guard;
 use payload_util::Refusal;
 use payload_util::Written;
@@ -144,7 +145,7 @@ pub enum BioHeadRead {
 impl BioHead {
     pub const WIRE_LEN: usize = 4;
 
-    // Where a template starts: after the head and its own length.
+    // Where a template starts: after the head and the length field.
     pub const TEMPLATE_AT: usize = 6;
 
     pub const TEMPLATE_MAX: usize = 65535;
@@ -182,7 +183,7 @@ impl BioHead {
         ]
     }
 
-    // What normalise writes after the checks of a kind: the payload as it came, and then its type and format folded.
+    // Normalises after the checks of a kind: writes the payload as it came, and then folds its type and format.
     fn put_folded(checked: Guard, p: &[u8], code: u8, out: &mut [u8]) -> Written
         requires { ⌜ (checked ≡ Guard.Pass → 4 ≤ length (now p)) ⌝ }
         ensures { λ r. ⌜ (r, now (out .exit)) ≡ putChecked checked code (without bioLoss (now (p .entry))) (now (out .entry)) ⌝ }
@@ -196,18 +197,18 @@ impl BioHead {
         Written::Wrote(n)
     }
 
-    // A row for the first of type and format that reading would fold.
-    pub fn within_limits(p: &[u8], number: u8, code: u8) -> Guard
-        ensures { λ r. ⌜ r ≡ withinLimits number code bioLoss (now (p .entry)) ⌝ }
+    // Row 17 for the first of type and format that reading would fold.
+    pub fn within_limits(p: &[u8], code: u8) -> Guard
+        ensures { λ r. ⌜ r ≡ withinLimits 17 code bioLoss (now (p .entry)) ⌝ }
     {
-        let bio_type = require_limit(p, 1, BioType::HIGHEST, number, code);
+        let bio_type = require_limit(p, 1, BioType::HIGHEST, FOLDED, code);
         let Guard::Pass = bio_type else {
             return bio_type;
         };
-        require_limit(p, 2, BioFormat::HIGHEST, number, code)
+        require_limit(p, 2, BioFormat::HIGHEST, FOLDED, code)
     }
 
-    // A head with a template, for BIOMATCH and BIOREADR: each has its code.
+    // The calls for a head with a template are shared by BIOMATCH and BIOREADR: each gives its own code.
     pub fn check_template(p: &[u8], code: u8) -> Guard
         ensures { λ r. ⌜ r ≡ checkTemplate code (now (p .entry)) ⌝ }
     {
@@ -325,7 +326,7 @@ impl BioMatch {
         }
     }
 
-    // The template; nothing where reading refuses.
+    // The template; empty if reading refuses.
     pub fn template(p: &[u8]) -> &[u8]
         ensures { λ r. ⌜ now r ≡ tail bioMatch (now (p .entry)) ⌝ }
     {

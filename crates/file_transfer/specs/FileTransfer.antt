@@ -1,4 +1,4 @@
--- osdp_FILETRANSFER (0x7C), §6.21: type, total size u32, offset u32, fragment length u16, fragment. The total and the offset are not compared
+-- osdp_FILETRANSFER (0x7C), R4.6, §6.21: type, total size u32, offset u32, fragment length u16, fragment. The total and the offset are not compared
 -- with the fragment.
 use Rattle.payload_util.specs.Prelude.{_∷_, _++_, length, drop, byteAt, u16At, u32At, u16Bytes, u32Bytes, headAndTail, atMost, nothing}
 use Rattle.payload_util.specs.Prelude.{Outcome, gives, refuses, Form, tailed}
@@ -9,7 +9,7 @@ abbrev pub fileTransferOutcome : FileTransferRead → Outcome FileTransfer
 fileTransferOutcome (Read f) = gives f
 fileTransferOutcome (Refused e) = refuses e
 
--- rows 4 and 6 of a payload; row 12 of a record: the length field has two bytes
+-- a payload is refused by rows 4 and 6, a record by row 12, since the length field has two bytes
 abbrev pub fileTransfer : Form
 fileTransfer = tailed {A = FileTransfer} (record {
   code = 0x7C;

@@ -15,7 +15,7 @@ use payload_util::u32_bytes;
 ghost use Rattle.payload_util.specs.Prelude.{_≡_, _≤_, length, check, fields, read, tail, write, normalise};
 ghost use Rattle.file_transfer.specs.FileTransfer.{fileTransferOutcome, fileTransfer};
 
-// The fixed fields; the fragment is the tail, and its length stands in no field.
+// The fixed fields; the fragment is the tail, and its length is not a field.
 pub struct FileTransfer {
     pub file_type: u8,
     pub total_size: u32,
@@ -59,7 +59,7 @@ impl FileTransfer {
         }
     }
 
-    // The fragment; nothing where reading refuses.
+    // The fragment; empty if reading refuses.
     pub fn fragment(p: &[u8]) -> &[u8]
         ensures { λ r. ⌜ now r ≡ tail fileTransfer (now (p .entry)) ⌝ }
     {

@@ -1,4 +1,4 @@
-// What the library says of a payload, in words. The words of its kind come as a row: the name, and the template of a record.
+// What the library says of a payload, in words. The words of its code come as a row: the name and, for a kind, the template of a record.
 use crate::Shown;
 use inspect_fields::of;
 use inspect_fields::tail;
@@ -16,18 +16,6 @@ use payload_util::Refusal;
 use payload_util::Written;
 ghost use Prim.Native.Nat.{_<_};
 ghost use lib.ListN.{length};
-
-// The kind's name; none where no kind has the code, or the payload is too long.
-fn name<'a>(line: Line, words: &'a [u8], p: &'a [u8]) -> &'a [u8] {
-    let side = line.side;
-    if osdp::LONGEST < p.len() {
-        return first(words, 0);
-    }
-    match osdp::kind_of(side, line.code) {
-        Lookup::Carried(_) => nth(0, words),
-        _ => first(words, 0),
-    }
-}
 
 fn side_number(line: Line) -> u64 {
     let side = line.side;
@@ -139,7 +127,7 @@ pub(crate) fn answer<'a>(
     out: &mut [u8],
     from: usize,
 ) -> Shown {
-    let titled = title(line, name(line, words, p), &mut *out, from);
+    let titled = title(line, nth(0, words), &mut *out, from);
     let side = line.side;
     match osdp::check(side, line.code, p) {
         Guard::Pass => Shown {

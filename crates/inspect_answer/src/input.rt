@@ -24,10 +24,11 @@ pub struct Input {
 }
 
 impl Tally {
-    // A line that is no payload.
-    fn complain(mut self, line: Line, f: Fault, out: &mut [u8]) -> Tally {
+    // A line that is no payload. If its first word is wrong, that is shown.
+    fn complain(mut self, line: Line, f: Fault, payload: &[u8], out: &mut [u8]) -> Tally {
         let values = [line.number as u64, line.column as u64, f.number()];
-        self.at = form(b"line %d, column %d: %e\n", &values, b"", out, self.at);
+        let word = first(payload, line.word_len(f));
+        self.at = form(b"line %d, column %d: %e%s\n", &values, word, out, self.at);
         self.bad = wrapping_add_u64(self.bad, 1);
         self
     }
@@ -48,7 +49,7 @@ impl Tally {
         let place = ended.place;
         match place {
             Place::Payload | Place::Whole => self.answer(ended, payload, space, out),
-            Place::Bad(f) => self.complain(ended, f, out),
+            Place::Bad(f) => self.complain(ended, f, payload, out),
             _ => self,
         }
     }

@@ -1,4 +1,4 @@
-// Payloads in words, line by line: the kinds' names, and what is shown of their records.
+// Payloads in words, line by line: the codes' names, and what is shown of a kind's records.
 mod answer;
 pub mod input;
 
@@ -15,7 +15,7 @@ pub(crate) struct Shown {
     pub(crate) is_refused: bool,
 }
 
-// A kind's row is labelled with c for a command or r for a reply, and the code byte in hex.
+// A code's row is labelled with c for a command or r for a reply, and the code byte in hex.
 fn label_of(line: Line) -> u64 {
     let side = line.side;
     let letter = match side {
@@ -25,7 +25,7 @@ fn label_of(line: Line) -> u64 {
     label(letter, digit(line.code / 16), digit(line.code % 16))
 }
 
-// Shows a payload. A row has a kind's name and the template of its record, with each field under the Rust's name.
+// Shows a payload. The row of a code has its name and, for a kind, the template of a record, with each field under the Rust's name.
 pub(crate) fn show(line: Line, p: &[u8], space: &mut [u8], out: &mut [u8], from: usize) -> Shown {
     let words = row(
         label_of(line),
@@ -43,7 +43,11 @@ pub(crate) fn show(line: Line, p: &[u8], space: &mut [u8], out: &mut [u8], from:
           ;r57 BIOREADR.  reader %d, bio_type %B, bio_format %F, quality %d\n  data:%h\n\
           ;r58 BIOMATCHR.  reader %d, result %d, score %d\n\
           ;r41 NAK.  error %N\n  completion_codes:%h\n\
-          ;rB1 XRD.  mode %d\n  payload:%h\n",
+          ;rB1 XRD.  mode %d\n  payload:%h\n\
+          ;c60 POLL;c61 ID;c62 CAP;c64 LSTAT;c65 ISTAT;c66 OSTAT;c67 RSTAT;c6A BUZ;c6E COMSET;c75 KEYSET;c76 CHLNG\
+          ;c77 SCRYPT;c7B ACURXSIZE;cA1 XWRITE;cA2 ABORT;cA3 PIVDATA;cA4 GENAUTH;cA5 CRAUTH;cA7 KEEPACTIVE;r40 ACK\
+          ;r45 PDID;r46 PDCAP;r48 LSTATR;r49 ISTATR;r4A OSTATR;r4B RSTATR;r53 KEYPAD;r54 COM;r76 CCRYPT;r78 RMACI\
+          ;r79 BUSY;r7A FTSTAT;r80 PIVDATAR;r81 GENAUTHR;r82 CRAUTHR;r83 MFGSTATR;r84 MFGERRR;r90 MFGREP",
     );
     answer(line, words, p, space, out, from)
 }

@@ -5,6 +5,9 @@ use std::num::wrapping_add_usize;
 // The longest payload that is taken: one byte above what the library takes, so that row 28 can be seen.
 pub const LONGEST: usize = 65547;
 
+// The most bytes of a wrong first word that are kept, to be shown.
+const WORD_MAX: usize = 20;
+
 // What is wrong with a line.
 pub enum Fault {
     Word,
@@ -37,13 +40,14 @@ pub struct Line {
     pub number: usize,
     pub column: usize,
     pub place: Place,
-    // the last eight letters of the word, as a number in base 256
+    // the column of the word, and its last eight bytes as a number in base 256
+    word: usize,
     letters: u64,
     pub side: Side,
     pub code: u8,
     // the first digit of a byte
     half: u8,
-    // the bytes that the payload has, and the last of them
+    // the bytes that the payload has, or before it the word, and the last of them
     pub len: usize,
     pub byte: u8,
 }
@@ -96,6 +100,7 @@ impl Line {
             number,
             column: 0,
             place: Place::Start,
+            word: 0,
             letters: 0,
             side: Side::Reply,
             code: 0,
@@ -110,6 +115,7 @@ impl Line {
             number: self.number,
             column: self.column,
             place,
+            word: self.word,
             letters: self.letters,
             side,
             code: self.code,
@@ -149,13 +155,14 @@ impl Line {
         }
     }
 
-    fn start(self, b: u8) -> Line {
+    fn start(mut self, b: u8) -> Line {
         if is_blank(b) {
             return self;
         }
         if b == b'#' {
             return self.at(Place::Comment);
         }
+        self.word = self.column;
         self.at(Place::Word).word(b)
     }
 
@@ -163,22 +170,36 @@ impl Line {
         if is_blank(b) {
             return self.named();
         }
-        match b {
-            b'a'..=b'z' => {
-                self.letters = self.letters % 0x1_00_00_00_00_00_00_00 * 256 + b as u64;
-                self
-            }
-            _ => self.bad(Fault::Word),
+        self.letters = self.letters % 0x1_00_00_00_00_00_00_00 * 256 + b as u64;
+        let len = self.len;
+        if len < WORD_MAX {
+            self.len = len + 1;
+            self.byte = b;
         }
+        self
     }
 
-    // After the word.
-    fn named(self) -> Line {
+    // After the word. Its length tells it from a longer one that ends in the same letters.
+    fn named(mut self) -> Line {
         let letters = self.letters;
-        match letters {
-            COMMAND => self.placed(Side::Command, Place::Gap),
-            REPLY => self.placed(Side::Reply, Place::Gap),
-            _ => self.bad(Fault::Word),
+        let len = self.len;
+        self.len = 0;
+        if letters == COMMAND && len == 7 {
+            return self.placed(Side::Command, Place::Gap);
+        }
+        if letters == REPLY && len == 5 {
+            return self.placed(Side::Reply, Place::Gap);
+        }
+        self.len = len;
+        self.column = self.word;
+        self.bad(Fault::Word)
+    }
+
+    // How many bytes of the payload's buffer hold the word, if that is what is wrong.
+    pub fn word_len(self, fault: Fault) -> usize {
+        match fault {
+            Fault::Word => self.len,
+            _ => 0,
         }
     }
 
@@ -246,7 +267,7 @@ impl Line {
         self.at(Place::Payload)
     }
 
-    // The line after one more byte, which does not end it; a byte of the payload that this completes goes to its place.
+    // The line after one more byte, which does not end it; a byte of the word, or of the payload that this completes, goes to its place.
     pub fn take(self, b: u8, payload: &mut [u8]) -> Line {
         let next = self.step(b);
         let at = self.len;

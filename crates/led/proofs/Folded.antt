@@ -24,11 +24,11 @@ record-folded b h =
     by-head 14 b (keep limits) h (sym (by-head 14 b (λ q. set (set (set (set q 5 (kept (upTo highestColor) (getD q 5 0))) 6
     (kept (upTo highestColor) (getD q 6 0))) 12 (kept (upTo highestColor) (getD q 12 0))) 13 (kept (upTo highestColor) (getD q 13 0))) h refl))
 
--- a payload that stands at the front of a buffer is no longer than it
+-- a payload at the front of a buffer is no longer than the buffer
 pub front-fits : (p o : List ℕ) → take (length p) o ≡ p → length p ≤ length o
 front-fits p o h = omega (arith, ap length h, length-take (length p) o)
 
--- one record more, in the w bytes that are lent; p is the payload that stands at the front of the buffer o, and q the buffer now
+-- one record more, in the w bytes that are lent; p is the payload at the front of the buffer o, and q is the buffer now
 module _ (p o q : List ℕ) (k w : ℕ) (width : w ≡ 14) (front : take (length p) o ≡ p) (is : q ≡ keep (times k limits) o)
     (there : k * 14 + 14 ≤ length p) where
   rest-is : drop (k * 14) q ≡ drop (k * 14) o

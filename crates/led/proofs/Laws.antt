@@ -1,4 +1,4 @@
--- The laws of the colours, and LED's part of demand 3.
+-- The laws of the colours, and LED's law.
 -- Assumes nothing.
 use mathlib.Core.Path.{_≡_, refl}
 use mathlib.Core.List.{List, _++_}
@@ -13,7 +13,7 @@ use Rattle.payload_util.specs.Guards.{blocksFrom}
 use Rattle.payload_util.specs.Form.{loss, check, whole}
 use Rattle.payload_util.specs.declared.Guard.the-variants.{Pass}
 use Rattle.payload_util.proofs.Below.{below}
-use Rattle.payload_util.proofs.Guards.{multiple-pass}
+use Rattle.payload_util.proofs.Guards.{multiple-pass, pass-multiple}
 use Rattle.payload_util.proofs.Words.{low-byte, high-byte}
 use Rattle.payload_util.proofs.Parts.{by-head}
 use Rattle.payload_util.proofs.Each.{each-kept}
@@ -31,12 +31,12 @@ unfolding colorOf
 color-back c =
     elim c [ Black ↦ refl | Red ↦ refl | Green ↦ refl | Amber ↦ refl | Blue ↦ refl | Magenta ↦ refl | Cyan ↦ refl | White ↦ refl ]
 
--- a byte stays up to 7, and becomes 0 above
+-- a byte up to 7 stays, and one above becomes 0
 pub color-kept : (b : ℕ) → b < 256 → colorByte (colorOf b) ≡ kept (upTo 7) b
 unfolding colorOf
 color-kept b h = eqb→eq _ _ (below (λ k. eqb (colorByte (colorOf k)) (kept (upTo 7) k)) 256 tt b h)
 
--- the same of a payload's byte
+-- a payload's byte up to 7 stays, and one above becomes 0
 color-at : (p : List ℕ) (i : ℕ) → Bytes p → colorByte (colorOf (getD p i 0)) ≡ kept (upTo 7) (getD p i 0)
 color-at p i b = color-kept (getD p i 0) (b i)
 
@@ -55,3 +55,4 @@ pub led-law : Law leds
 unfolding blocksFrom
 led-law =
     listed-law (λ r. refl) led-restored (omega arith) (λ p g. multiple-pass 14 ledCode p g .1) led-kept (λ p g. simp length-keep g)
+    (λ rs some e. pass-multiple 14 ledCode (flat ledBytes rs) (length rs) (omega arith) some e)

@@ -1,4 +1,4 @@
--- The colours of LED records are the bytes that have a limit, and no other.
+-- The colours of LED records have a limit, and no other bytes do.
 -- Assumes nothing.
 use mathlib.Core.Path.{_≡_, refl, sym, ap, _∙_}
 use mathlib.Core.List.{List}

@@ -1,4 +1,4 @@
--- osdp_LED (0x69), §6.9, Tables 16 to 18: records of 14 bytes. Reader and LED; temporary control, on time, off time, on colour, off colour
+-- osdp_LED (0x69), R4.1, §6.9, Tables 16 to 18: records of 14 bytes. Reader and LED; temporary control, on time, off time, on colour, off colour
 -- and timer u16; permanent control, on time, off time, on colour and off colour.
 use Rattle.payload_util.specs.Prelude.{List, [], _∷_, _++_, ℕ, cond, ltb, length, drop, byteAt, u16At, u16Bytes, positiveMultipleOf}
 use Rattle.payload_util.specs.Prelude.{named, Keep, any, upTo, Loss, aboveInEach, Outcome, gives, refuses, Form, listed}
@@ -7,7 +7,7 @@ use Rattle.led.specs.declared.{LedRead.LedRead, LedRead.the-variants.Rea
 use Rattle.led.specs.declared.{LedStep.LedStep, LedStep.the-variants.Record, LedStep.the-variants.Finished}
 use Rattle.led.specs.declared.LedColor.the-variants.{Black, Red, Green, Amber, Blue, Magenta, Cyan, White}
 
--- Table 18
+-- Table 18, R3.4
 abbrev pub colorByte : LedColor → ℕ
 colorByte Black = 0
 colorByte Red = 1
@@ -50,7 +50,7 @@ permanentOf p = record {
   «off_color» = colorOf (byteAt p 13);
 }
 
--- the record that starts a list
+-- the first record of a list
 abbrev pub ledOf : List ℕ → LedRecord
 ledOf p = record { reader = byteAt p 0; led = byteAt p 1; temporary = temporaryOf p; permanent = permanentOf p }
 
@@ -58,7 +58,7 @@ abbrev pub ledOutcome : LedRead → Outcome LedRecord
 ledOutcome (Read r) = gives r
 ledOutcome (Refused e) = refuses e
 
--- what stands at an offset: a record, or fewer than 14 bytes
+-- what is at an offset: a record, or fewer than 14 bytes
 abbrev pub stepLed : List ℕ → ℕ → LedStep
 stepLed p offset = cond (ltb (length (drop offset p)) 14) Finished (Record (ledOf (drop offset p)))
 

@@ -1,6 +1,7 @@
 // osdp_LED (0x69), reader LED control: a list of records, each with a temporary and a permanent half.
 use lists::list_answer;
 use lists::put_at;
+use payload_util::FOLDED;
 use payload_util::Guard;
 use payload_util::Refusal;
 use payload_util::Written;
@@ -161,7 +162,7 @@ pub enum LedRead {
     Refused(Refusal),
 }
 
-// What stands at an offset: a record, or fewer bytes than one has.
+// What is at an offset: a record, or fewer bytes than a record has.
 pub enum LedStep {
     Record(LedRecord),
     Finished,
@@ -172,7 +173,7 @@ impl LedRecord {
 
     pub const WIRE_LEN: usize = 14;
 
-    // The record that starts a buffer.
+    // The record at the start of a buffer.
     fn fields(buf: &[u8]) -> LedRecord
         requires { ⌜ 14 ≤ length (now buf) ⌝ }
         ensures { λ r. ⌜ r ≡ ledOf (now (buf .entry)) ⌝ }
@@ -188,7 +189,7 @@ impl LedRecord {
     }
 
     // The record's bytes.
-    pub fn to_bytes(self) -> [u8; 14]
+    fn to_bytes(self) -> [u8; 14]
         ensures { λ r. ⌜ r ≡ ledBytes self ⌝ }
     {
         let temporary = self.temporary;
@@ -228,7 +229,7 @@ impl LedRecord {
         p.len() / Self::WIRE_LEN
     }
 
-    // The record of an index; the whole list is checked first.
+    // The record at an index; the whole list is checked first.
     pub fn decode(p: &[u8], index: usize) -> LedRead
         ensures { λ r. ⌜ ledOutcome r ≡ read leds (now (p .entry)) index ⌝ }
     {
@@ -243,7 +244,7 @@ impl LedRecord {
         LedRead::Read(Self::fields(tail_from(p, Self::WIRE_LEN * index)))
     }
 
-    // What stands at an offset, wherever that is.
+    // What is at an offset, which may also be past the end.
     pub fn decode_at(p: &[u8], offset: usize) -> LedStep
         ensures { λ r. ⌜ r ≡ stepLed (now (p .entry)) offset ⌝ }
     {
@@ -254,7 +255,7 @@ impl LedRecord {
         LedStep::Record(Self::fields(part))
     }
 
-    // The record's bytes from an offset on, wherever that is, or row 15.
+    // Writes the record's bytes into out from any offset on; row 15 if they do not fit.
     pub fn encode_at(self, out: &mut [u8], offset: usize) -> Written
         ensures { λ r. ⌜ (r, now (out .exit)) ≡ putAt ledCode offset (ledBytes self) (now (out .entry)) ⌝ }
     {
@@ -262,7 +263,7 @@ impl LedRecord {
         put_at(&bytes, Self::CODE, out, offset)
     }
 
-    // A lent list, record by record from the front of out: row 11 for an empty list, then row 15.
+    // Writes a lent list, record by record from the front of out: row 11 for an empty list, then row 15.
     pub fn encode(records: &[LedRecord], out: &mut [u8]) -> Written
         ensures { λ r. ⌜ (r, now (out .exit)) ≡ write leds (now (records .entry)) (now (out .entry)) ⌝ }
     {
@@ -279,7 +280,7 @@ impl LedRecord {
         answer
     }
 
-    // The colours of a record, folded, into a copy of it. All are read before one is written: the compiler need not read again.
+    // Folds the colours of a record into a copy of it. All are read before one is written, so the compiler need not read any again.
     fn fold(from: &[u8], bytes: &mut [u8])
         requires { ⌜ (14 ≤ length (now from)) × (14 ≤ length (now bytes)) × (now from ≡ now bytes) ⌝ }
         ensures { λ _. ⌜ now (bytes .exit) ≡ keep (ledLimits highestColor) (now (bytes .entry)) ⌝ }
@@ -294,7 +295,7 @@ impl LedRecord {
         bytes[13] = permanent_off;
     }
 
-    // The colours of all records of a payload that stands at the front of out.
+    // Folds the colours of all records of a payload whose copy is at the front of out.
     fn fold_all(p: &[u8], out: &mut [u8])
         requires { ⌜ take (length (now p)) (now out) ≡ now p ⌝ }
         ensures { λ _. ⌜ now (out .exit) ≡ keep (times (length (now (p .entry)) / 14) (ledLimits highestColor)) (now (out .entry)) ⌝ }
@@ -309,7 +310,7 @@ impl LedRecord {
         }
     }
 
-    // Read the list and write it again: colours above the highest become Black.
+    // Reads the list and writes it again: colours above the highest become Black.
     pub fn normalise(p: &[u8], out: &mut [u8]) -> Written
         ensures { λ r. ⌜ (r, now (out .exit)) ≡ normalise leds (now (p .entry)) (now (out .entry)) ⌝ }
     {
@@ -321,7 +322,7 @@ impl LedRecord {
         Written::Wrote(n)
     }
 
-    // A row for the first colour of a record, by offset, above the highest.
+    // The row with this number for the first colour of a record, by offset, that is above the highest.
     fn record_within(p: &[u8], index: usize, highest: u8, number: u8) -> Guard
         requires { ⌜ index < length (now p) / 14 ⌝ }
         ensures { λ r. ⌜ r ≡ inOrder (limited number ledCode (ledLoss highest) (now (p .entry))) (14 * index) 14 ⌝ }
@@ -342,8 +343,8 @@ impl LedRecord {
         require_limit(p, start + 13, highest, number, Self::CODE)
     }
 
-    // The same of all records, in order.
-    pub fn within_limits(p: &[u8], highest: u8, number: u8) -> Guard
+    // The row with this number for the first colour of the payload, by offset, that is above the highest.
+    fn colors_within(p: &[u8], highest: u8, number: u8) -> Guard
         ensures { λ r. ⌜ r ≡ withinLimits number ledCode (ledLoss highest) (now (p .entry)) ⌝ }
     {
         let n = Self::count(p);
@@ -356,5 +357,12 @@ impl LedRecord {
             k += 1;
         }
         Guard::Pass
+    }
+
+    // Row 17 for the first colour of the payload, by offset, that reading would fold.
+    pub fn within_limits(p: &[u8]) -> Guard
+        ensures { λ r. ⌜ r ≡ withinLimits 17 ledCode (ledLoss highestColor) (now (p .entry)) ⌝ }
+    {
+        Self::colors_within(p, LedColor::HIGHEST, FOLDED)
     }
 }

@@ -1,5 +1,5 @@
 -- What the walks over a `LedWalker` share: the struct is taken apart for a call on its slice and its place, and put together at another place.
--- It is Copy, so what it owns is had again.
+-- It is Copy, so what it owns is available again.
 -- Assumes `Given`.
 use Rattle.lists.proofs.Kit.{ !, Atoms, Fml, Given, Heap, Is, List, NamedLft, SProp, Share, ShrSlice, Slot, URA, Val, [], _$_, _<_, _^_, _∵_, _∷_}
 use Rattle.lists.proofs.Kit.{_≡_, _⊛_, by, done, drop, ent, fjoin, flft, frame, ftrue, given, learn, length, move, named, nothing, owned, owns}
@@ -27,7 +27,7 @@ passed d = (sliceVal (d .payload .ptr) (length (d .payload .now)) ∷ [], (vint 
 abbrev pub Held : NamedLft → LedWalker → Fml
 Held α d = T.the-row α .own d (T′.lowered d ∷ [])
 
--- the same at another place
+-- the walker at another place
 abbrev pub moved : LedWalker → ℕ → LedWalker
 moved d n = record { payload = d .payload; offset = n }
 
@@ -40,7 +40,7 @@ module _ {M : Type 1} (𝓤 : URA M) (H : Heap 𝓤) (A : Atoms 𝓤) (W : Given
       qed W (‵ (Held α d) ∷ []) ∵ owned ! usize (Is usize) (uint-makes 𝓤 H A W w64) n _ (refl, ok) $ move ! (1 ∷ 0 ∷ []) $
       by ! (own-put 𝓤 H A W (T.the-type α) (T′.the-laws α) 1 (fields α d) n (T′.lowered d))
 
-  -- what a callee asks of the slice and the place, P, is had beside what the struct owns
+  -- P, which a callee asks of the slice and the place, is available together with what the struct owns
   pub apart : (q : Share) → d .offset < 2 ^ 64 → (P : SProp 𝓤)
       → ent 𝓤 (⋆ 𝓤 H A ((‵ (flft (α .lft) q) ⊛ ‵ ftrue)
       ∷ ‵ (owns (ShrSlice (named 0) (α .lft) u8 ∷ usize ∷ []) (d .payload, (d .offset, tt)) (passed d)) ∷ [])) P

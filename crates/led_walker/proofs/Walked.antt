@@ -1,5 +1,5 @@
--- The walker's claim, over what the contracts of `start` and `next` say: an accepted payload's records in order, and nothing after them; nothing
--- of a refused payload; and from any hand-made offset with fewer than 14 bytes left, nothing at any step.
+-- What a walker hands out, by the contracts of `start` and `next`: the records of an accepted payload in order, and nothing after them;
+-- nothing for a refused payload; and nothing at any step from a hand-made offset with fewer than 14 bytes left.
 -- Assumes nothing.
 use mathlib.Core.Path.{_≡_, refl, sym, ap, _∙_}
 use mathlib.Core.List.{List, [], _∷_, _++_, map}
@@ -23,14 +23,14 @@ use Rattle.led_walker.specs.Walk.{startLed, walkerOf, walk}
 use Rattle.led_walker.specs.declared.LedWalker.{LedWalker}
 use Rattle.led_walker.specs.declared.LedStart.{LedStart}
 
--- with fewer than 14 bytes left from its offset, whatever that is, a walker is finished, at every step
+-- a walker with fewer than 14 bytes left from its offset, whatever that is, is finished at every step
 pub finished : (m : ℕ) (w : LedWalker) → length (drop (w .offset) (now (w .payload))) < 14 → walk m w ≡ replicate m Finished
 unfolding walk
 finished zero w h = refl
 finished (suc m) w h =
     rw (lt-ltb (length (drop (w .offset) (now (w .payload)))) 14 h) (ap (λ (l : List LedStep). Finished ∷ l) (finished m w h))
 
--- n whole records are left from the offset, and no more: they are handed out in order, and nothing after them
+-- if n whole records are left from the offset, and no more, they are handed out in order, and nothing after them
 walks : (n m : ℕ) (s : RefT (List ℕ)) (offset : ℕ) → 14 * n ≤ length (drop offset (now s)) → length (drop offset (now s)) < 14 * n + 14
     → walk (n + m) (record { payload = s; offset = offset }) ≡ map Record (each ledOf 14 n (drop offset (now s))) ++ replicate m Finished
 unfolding walk
@@ -47,7 +47,7 @@ abbrev pub Started : List ℕ → LedStart → Type 0
 Started p s = (now (s .payload), s .offset, s .checked) ≡ startLed p
 
 module _ (p : List ℕ) (s : LedStart) (e : Started p s) where
-  -- the walker holds what is left of the payload by its check, from the start
+  -- from the start, the walker holds what the check leaves of the payload
   holds : {g : Guard} → s .checked ≡ g → drop (s .offset) (now (s .payload)) ≡ tailWhere g p
   holds c =
       let at : s .offset ≡ 0 = ap (λ (x : List ℕ × ℕ × Guard). x .1) e in

@@ -6,15 +6,15 @@ use Rattle.led.specs.Led.{leds, stepLed}
 use Rattle.led.specs.declared.LedStep.{LedStep}
 use Rattle.led_walker.specs.declared.{LedWalker.LedWalker, LedStart.LedStart, LedStarted.LedStarted, LedMoved.LedMoved}
 
--- the payload where the LED reader accepts it, else no bytes; offset 0; the reader's check
+-- the payload if the LED reader accepts it, else no bytes; offset 0; the reader's check
 abbrev pub startLed : List ℕ → List ℕ × ℕ × Guard
 startLed p = (tailWhere (check leds p) p, 0, check leds p)
 
--- the same in plain values
+-- what starting gives, in plain values
 abbrev pub startedLed : List ℕ → LedStarted
 startedLed p = record { len = length (tailWhere (check leds p) p); offset = 0; checked = check leds p }
 
--- the offset after a step: past the record where 14 bytes are left, else the same
+-- the offset after a step: past the record if 14 bytes are left, else unchanged
 abbrev pub offsetAfter : List ℕ → ℕ → ℕ
 offsetAfter p offset = cond (ltb (length (drop offset p)) 14) offset (offset + 14)
 

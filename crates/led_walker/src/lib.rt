@@ -1,4 +1,4 @@
-// A walker over the records of an LED payload: it holds the payload and its offset, and hands out the records in order.
+// A walker over the records of an LED payload: it holds the payload and an offset, and hands out the records in order.
 use led::LedRecord;
 use led::LedStep;
 use payload_util::Guard;
@@ -12,14 +12,14 @@ pub struct LedWalker<'a> {
     pub offset: usize,
 }
 
-// What starting gives: a pass beside the payload and the offset of its first record, or a refusal beside no bytes and 0.
+// What starting gives: a pass with the payload and the offset of its first record, or a refusal with no bytes and offset 0.
 pub struct LedStart<'a> {
     pub payload: &'a [u8],
     pub offset: usize,
     pub checked: Guard,
 }
 
-// The same in plain values: how many bytes the walker holds, its offset, and the check.
+// What starting gives, in plain values: how many bytes the walker holds, its offset, and the check.
 pub struct LedStarted {
     pub len: usize,
     pub offset: usize,
@@ -45,7 +45,7 @@ impl<'a> LedWalker<'a> {
         }
     }
 
-    // Hands out the record at the walker's offset and moves past it; with fewer than 14 bytes left from there it is finished, and stays.
+    // Hands out the record at the walker's offset and moves past it. If fewer than 14 bytes are left from there, it is finished and stays.
     pub fn next(&mut self) -> LedStep
         ensures { λ r. ⌜ (r, now (self .exit)) ≡ stepped (now (self .entry)) ⌝ }
     {
@@ -55,7 +55,7 @@ impl<'a> LedWalker<'a> {
     }
 }
 
-// The offset after a step: past the record where there is one, else the same.
+// The offset after a step: past the record if there is one, else unchanged.
 fn offset_after(payload: &[u8], offset: usize) -> usize
     ensures { λ r. ⌜ r ≡ offsetAfter (now (payload .entry)) offset ⌝ }
 {
@@ -75,7 +75,7 @@ fn moved_at(payload: &[u8], offset: usize) -> LedMoved
     }
 }
 
-// What starting gives, with a plain result: its callers need no walk by hand.
+// What starting gives, as a plain result, so that callers need no proof by hand.
 pub fn started(payload: &[u8]) -> LedStarted
     ensures { λ r. ⌜ r ≡ startedLed (now (payload .entry)) ⌝ }
 {
@@ -87,7 +87,7 @@ pub fn started(payload: &[u8]) -> LedStarted
     }
 }
 
-// A step of a walker made at an offset, with plain parameters: its callers need no walk by hand.
+// A step of a walker made at an offset, with plain parameters, so that callers need no proof by hand.
 pub fn step_at(payload: &[u8], offset: usize) -> LedMoved
     ensures { λ r. ⌜ r ≡ movedLed (now (payload .entry)) offset ⌝ }
 {

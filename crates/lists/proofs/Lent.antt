@@ -6,8 +6,8 @@
 --     while k < n { records[k].PUT(out, k * SIZE); k += 1; }
 --     answer
 -- `function` is its MIR over the kind and PUT's key, `signature` and `clauses` its contract, `put-signature` and `put-clauses` PUT's. At a kind
--- that is written out they compute to what `rattle check` makes of the source, so a kind's proof cites `lent-spec` with PUT's theorem, and says no
--- more.
+-- that is written out they compute to what `rattle check` makes of the source, so a kind's proof only cites `lent-spec` with PUT's
+-- theorem.
 --     With, At k    the context before the loop, and at its head after k turns
 --     leaves        the answer is returned, and the locals are freed
 --     more, ends    a turn that writes a record, and the turn that leaves the loop
@@ -196,7 +196,7 @@ module _ (K : RecordKind) where
     ensures = λ _ r e. fact 𝓤 (_≡_ {A = Effect} (r, now (e .1 .0)) (writes (now (a .0)) (now (a .1 .0))));
   }
 
-  -- nothing is had of the list at exit, and the buffer is still owned
+  -- nothing of the list is left at exit, and the buffer is still owned
   abbrev stayed : Stays (ended .signature .params) (ended .kept)
   stayed = (stay-dropped records yes, (stay-slice (1 ∷ []) tt (plain (λ _. u8)), tt))
 
@@ -621,7 +621,7 @@ module _ {M : Type 1} (𝓤 : URA M) (H : Heap 𝓤) (A : Atoms 𝓤) (W : Given
       (goes-dropped 𝓤 H A W 2 (records K) yes (λ κs x f. refl), (goes-slice 𝓤 H A W 2 1 tt (plain (λ _. u8)), tt)) (clauses K 𝓤) Runs
       (WpFn-mono 𝓤 H (W .laws) 𝓣 (function K put)) walks
 
--- a kind's writer, where its code's calls mean γ
+-- a kind's writer, if its code's calls mean γ
 module _ {M : Type 1} (𝓤 : URA M) (H : Heap 𝓤) (𝓜 : Model 𝓤 H) (𝓖 : GhostRules 𝓤 H) (𝓡 : Running 𝓤 H 𝓜) (γ : Meaning) (K : RecordKind) where
   pub lent-spec : (key put : Name) (r : Routine) → γ put ≡ r → Triple 𝓤 (𝓡 .run r) (Put K 𝓤 H (𝓖 .A)) → γ #list-answer ≡ answer-def.routine
       → Closed 𝓤 H (tables 𝓤 H 𝓜 𝓡 γ .C) (tables 𝓤 H 𝓜 𝓡 γ .Λ) key (function K put)

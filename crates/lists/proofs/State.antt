@@ -60,7 +60,7 @@ module _ {X : Type 0} (bytes : X → List ℕ) (size : ℕ) (fixed : (x : X) →
     abbrev pub state : ℕ → List ℕ
     state k = flat bytes (take k xs) ++ drop (k * size) o
 
-    -- the buffer after all, or as it was where the writer refuses
+    -- the buffer after all records, or as it was if the writer refuses
     abbrev pub end : List ℕ
     end = putChecked (notEmpty code xs) code (flat bytes xs) o .1
 
@@ -99,7 +99,7 @@ module _ {X : Type 0} (bytes : X → List ℕ) (size : ℕ) (fixed : (x : X) →
           append-assoc,
         )
 
-    -- what is known of the buffer beside the answer
+    -- what each answer says of the buffer
     pub data Facts : Written → Type 0 where
       refuses : {e : Refusal} → o ≡ end → Facts (Refused e)
       goes-on : {n : ℕ} → length xs * size ≤ length o → state (length xs) ≡ end → Facts (Wrote n)
@@ -133,7 +133,7 @@ module _ {X : Type 0} (bytes : X → List ℕ) (size : ℕ) (fixed : (x : X) →
             simp (length-append, length-drop) (omega arith)
         go (Stopped r) e = refl
 
-    -- what a function shows that takes the answer first, as `list_answer` gives it, and then writes the records
+    -- for a function that first takes the answer, as `list_answer` gives it, and then writes the records
     module _ {a : Written} (q : a ≡ listAnswer (length xs) size code (length o)) where
       known : Facts a
       known = rw q facts

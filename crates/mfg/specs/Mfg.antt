@@ -1,4 +1,4 @@
--- osdp_MFG (0x80), §6.22: the vendor's OUI of three bytes, and data.
+-- osdp_MFG (0x80), R4.7, §6.22: the vendor's OUI of three bytes, and data.
 use Rattle.payload_util.specs.Prelude.{_∷_, drop, byteAt, atLeast, nothing, Outcome, gives, refuses, Form, tailed}
 use Rattle.payload_util.specs.declared.Guard.the-variants.{Pass}
 use Rattle.mfg.specs.declared.{Mfg.Mfg, MfgRead.MfgRead, MfgRead.the-variants.Read, MfgRead.the-variants.Refused}

@@ -53,7 +53,7 @@ impl Mfg {
         }
     }
 
-    // The vendor's data; nothing where reading refuses.
+    // The vendor's data; empty if reading refuses.
     pub fn payload(p: &[u8]) -> &[u8]
         ensures { λ r. ⌜ now r ≡ tail mfg (now (p .entry)) ⌝ }
     {

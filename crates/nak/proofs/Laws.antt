@@ -1,6 +1,6 @@
--- NAK's code table, what reading keeps, and NAK's part of demand 3.
+-- NAK's code table, what reading keeps, and NAK's law.
 -- Assumes nothing.
-use mathlib.Core.Path.{_≡_, refl}
+use mathlib.Core.Path.{_≡_, refl, sym, ap, _∙_}
 use mathlib.Core.Bool.{Bool, true, false, cond}
 use mathlib.Core.List.{List, [], _∷_}
 use Prim.Native.Nat.{ℕ, _≤_}
@@ -16,9 +16,10 @@ use Rattle.payload_util.specs.Outcome.{Outcome, gives, refuses, outcome, guardO
 use Rattle.payload_util.specs.Form.{loss, check}
 use Rattle.payload_util.specs.declared.Guard.{Guard}
 use Rattle.payload_util.specs.declared.Guard.the-variants.{Pass, Refused}
-use Rattle.payload_util.proofs.Guards.{also-pass, least-pass}
+use Rattle.payload_util.proofs.Guards.{also-pass, least-pass, pass-least}
 use Rattle.payload_util.proofs.Table.{exact, exact-value}
 use Rattle.payload_util.proofs.Parts.{by-head}
+use Rattle.payload_util.proofs.Losses.{kept-whole}
 use Rattle.payload_util.proofs.Scheme.{Law}
 use Rattle.payload_util.proofs.Forms.{tailed-law}
 use Rattle.nak.specs.declared.NakErrorCode.{NakErrorCode}
@@ -46,7 +47,7 @@ pub nak-error-exact : (b : ℕ) (c : NakErrorCode) → readNakError b ≡ gives 
 unfolding readNakError
 nak-error-exact b c = exact nakErrorByte (row 10 nakCode 0 0) nakErrors b c
 
--- what reading keeps: nothing of an empty payload; after its first byte the completion codes
+-- reading keeps an empty payload as it is; after the first byte it keeps the completion codes
 pub kept-none : (p : List ℕ) → length p ≡ 0 → p ≡ without (loss nak) p
 kept-none [] h = refl
 kept-none (b ∷ p) h = absurd (omega arith)
@@ -79,4 +80,6 @@ nak-law =
     rw (exact-value nakErrorByte (row 10 nakCode 0 0) nakErrors (byteAt p 0) NoError known)
     (error-and-codes (eqb (byteAt p 0) completionError) p (least-pass 1 nakCode p least)))
     (λ p b g. refl)
-    (λ n t w. simp nak-error-back) (λ n t. refl) (λ p g. nak-steady (eqb (byteAt p 0) completionError) p g)
+    (λ n t w. simp nak-error-back) (λ n t. refl) (λ p u. sym (kept-codes p) ∙ ap (drop 1) (kept-whole (loss nak) p u refl))
+    (λ p g. nak-steady (eqb (byteAt p 0) completionError) p g)
+    (λ n t w. simp (pass-least 1 nakCode (nakErrorByte (n .error) ∷ t) (omega arith), nak-error-back))

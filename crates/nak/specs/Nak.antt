@@ -1,4 +1,4 @@
--- osdp_NAK (0x41), §7.3: the error of Table 47, and completion codes. They are read beside one error alone, and written beside every error.
+-- osdp_NAK (0x41), R4.12, §7.3: the error of Table 47, and completion codes. They are read with one error only, and written with every error.
 use Rattle.payload_util.specs.Prelude.{List, [], _∷_, ℕ, cond, eqb, drop, byteAt, row, _also_, atLeast, named}
 use Rattle.payload_util.specs.Prelude.{Outcome, gives, refuses, guardOf, valueOr, restUnless, Form, tailed}
 use Rattle.payload_util.specs.declared.Guard.the-variants.{Pass}
@@ -10,7 +10,7 @@ use Rattle.nak.specs.declared.{NakErrorCode.NakErrorCode, NakErrorCodeRe
 abbrev pub nakCode : ℕ
 nakCode = 0x41
 
--- Table 47
+-- Table 47, R3.9
 abbrev pub nakErrorByte : NakErrorCode → ℕ
 nakErrorByte NoError = 0x00
 nakErrorByte BadCrcOrChecksum = 0x01
@@ -37,7 +37,7 @@ abbrev pub nakErrorOutcome : NakErrorCodeRead → Outcome NakErrorCode
 nakErrorOutcome (ReadError c) = gives c
 nakErrorOutcome (RefusedError e) = refuses e
 
--- the error byte beside which completion codes are read
+-- the error byte with which completion codes are read
 abbrev pub completionError : ℕ
 completionError = nakErrorByte UnableToProcessCommandRecord
 

@@ -1,4 +1,4 @@
-// osdp_NAK (0x41), the reply to a command that was not taken: an error, and beside one error completion codes.
+// osdp_NAK (0x41), the reply to a command that was not accepted: an error, and with one of the errors completion codes.
 use payload_util::Guard;
 use payload_util::Refusal;
 use payload_util::Written;
@@ -87,7 +87,7 @@ impl Nak {
 
     // A NAK to be written without completion codes.
     pub fn simple(err: NakErrorCode) -> Nak
-        ensures { λ r. ⌜ r .error ≡ err ⌝ }
+        ensures { λ r. ⌜ r ≡ record { error = err } ⌝ }
     {
         Nak { error: err }
     }
@@ -114,7 +114,7 @@ impl Nak {
         }
     }
 
-    // What reading keeps of an accepted payload: all beside the error that has completion codes, else the error alone.
+    // What reading keeps of an accepted payload: all of it if the error is the one with completion codes, else the error alone.
     fn kept(p: &[u8]) -> &[u8]
         ensures { λ r. ⌜ now r ≡ without (loss nak) (now (p .entry)) ⌝ }
     {
@@ -127,14 +127,14 @@ impl Nak {
         &p[0..1]
     }
 
-    // The completion codes; nothing beside any other error and where reading refuses.
+    // The completion codes; empty if the error is not the one with completion codes, and if reading refuses.
     pub fn completion_codes(p: &[u8]) -> &[u8]
         ensures { λ r. ⌜ now r ≡ tail nak (now (p .entry)) ⌝ }
     {
         tail_where(Self::check(p), Self::kept(p), Self::WIRE_LEN)
     }
 
-    // Completion codes are written beside every error.
+    // Completion codes are written with every error.
     pub fn encode(self, completion_codes: &[u8], out: &mut [u8]) -> Written
         ensures { λ r. ⌜ (r, now (out .exit)) ≡ write nak self (now («completion_codes» .entry)) (now (out .entry)) ⌝ }
     {

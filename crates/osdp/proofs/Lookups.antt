@@ -1,4 +1,4 @@
--- What a code byte is where no kind has it, the kind of a payload, and strict by code byte.
+-- What a code byte is if no kind has it, the kind of a payload, and strict by code byte.
 -- Assumes nothing.
 use mathlib.Core.Path.{_≡_, refl, sym, ap, subst, _∙_}
 use mathlib.Core.List.{List}
@@ -38,10 +38,10 @@ module _ {C : Type 0} (side : Side) (b : ℕ) {o : Outcome C} (is : inTable side
 
 -- ---- the kind of a payload
 
--- a kind has the code, and the payload is not too long: what the kind answers is the answer
+-- if a kind has the code and the payload is not too long, the kind's answer is the answer
 module _ (side : Side) (k : Kind) (p : List ℕ) {c : ℕ} (named : kindOf side (codeOf k) ≡ Carried k) (is : c ≡ codeOf k)
     (fits : length p ≤ longest) where
-  by-kind : kindFor side c p ≡ gives k
+  pub by-kind : kindFor side c p ≡ gives k
   unfolding kindFor notTooLong
   by-kind = rw (is, named, le-leb (length p) longest fits)
 

@@ -18,40 +18,25 @@ use Rattle.payload_util.specs.declared.Guard.the-variants.{Pass, Refused}
 use Rattle.payload_util.specs.declared.Written.the-variants.{Wrote}
 use Rattle.payload_util.proofs.Guards.{check-pass, also-pass, pass-room}
 use Rattle.payload_util.proofs.InOrder.{all-pass}
-use Rattle.payload_util.proofs.Losses.{without-le, kept-all, OneByOne, kept-whole}
+use Rattle.payload_util.proofs.Losses.{without-le, kept-all, kept-whole}
 use Rattle.payload_util.proofs.Scheme.{wrote, normalise-is}
 use Rattle.osdp.specs.declared.Side.{Side}
 use Rattle.osdp.specs.declared.Kind.{Kind}
-use Rattle.osdp.specs.declared.Kind.the-variants.{Led, Out, Text, BioRead, BioMatch, FileTransfer, Mfg, Raw, Fmt, BioReadR, BioMatchR, Nak, Xrd}
+use Rattle.osdp.specs.declared.Kind.the-variants.{Nak}
 use Rattle.osdp.specs.declared.Lookup.the-variants.{Carried}
 use Rattle.osdp.specs.Kinds.{form, kindOf}
 use Rattle.osdp.specs.ByCode.{longest, notTooLong, kindFor, check, strict, normalise}
 use Rattle.osdp.specs.Signed.{Short}
 use Rattle.osdp.specs.Promises.{Promised, Promises}
-use Rattle.osdp.proofs.Laws.{law}
+use Rattle.osdp.proofs.Laws.{law, uncut}
 use Rattle.osdp.proofs.Lookups.{kind-gives}
 
 -- ---- what strict passes is kept whole
 
-one-by-one : (k : Kind) → (k ≡ Nak → ⊥) → OneByOne (loss (form k))
-one-by-one Led n = tt
-one-by-one Out n = tt
-one-by-one Text n = tt
-one-by-one BioRead n = tt
-one-by-one BioMatch n = tt
-one-by-one FileTransfer n = tt
-one-by-one Mfg n = tt
-one-by-one Raw n = tt
-one-by-one Fmt n = tt
-one-by-one BioReadR n = tt
-one-by-one BioMatchR n = tt
-one-by-one Nak n = absurd (n refl)
-one-by-one Xrd n = tt
-
 unchanged : (k : Kind) (p : List ℕ) → (k ≡ Nak → ⊥) → withinLimits 17 (code (form k)) (loss (form k)) p ≡ Pass → without (loss (form k)) p ≡ p
 unfolding withinLimits
 unchanged k p n e =
-    kept-whole (loss (form k)) p (one-by-one k n) (kept-all (limits (loss (form k)) p) p
+    kept-whole (loss (form k)) p (uncut k p (λ is. absurd (n is))) (kept-all (limits (loss (form k)) p) p
     (λ at lt. check-pass _ _ (all-pass (limited 17 (code (form k)) (loss (form k)) p) (length p) e at lt)))
 
 -- ---- writing

@@ -1,4 +1,4 @@
--- The starred payloads: the definitions give what document 01 says of each.
+-- The definitions give what R8.1 says of each starred payload.
 -- Assumes nothing.
 use mathlib.Core.Path.{_≡_, refl}
 use mathlib.Core.List.{List, [], _∷_}
@@ -16,7 +16,10 @@ use Rattle.text.specs.Text.{readTextCommand, printable, textShape}
 use Rattle.biometric.specs.Biometric.{bioTypeOf, bioFormatOf}
 use Rattle.nak.specs.Nak.{readNakError}
 use Rattle.osdp.specs.declared.Kind.the-variants.{Led, Out}
-use Rattle.osdp.specs.Kinds.{form}
+use Rattle.codes.specs.CommandCode.{readCommand}
+use Rattle.codes.specs.ReplyCode.{readReply}
+use Rattle.osdp.specs.Kinds.{form, kindOf}
+use Rattle.osdp.specs.ByCode.{notTooLong, kindFor}
 use Rattle.osdp.specs.Starred.{starred, RefusedAs, AllHold, none, _and_, greenBytes, green, dark}
 
 -- what holds of each record of a list of one or two
@@ -42,15 +45,15 @@ unfolding inOrder blocksFrom present colorOf readOutputCode codesKnown
 three = (record { output = 3; code = TemporaryOnResume; timer = 10 }, refl, refl, one _ refl)
 
 -- a record and its tail
-both : {A B : Type 0} → A → B → A × B
+pub both : {A B : Type 0} → A → B → A × B
 both a b = (a, b)
 
--- a list that is refused is refused whichever record is asked for
+-- a list that is refused is refused for every record that is asked for
 thirteen : RefusedAs (form Led) (replicate 13 0x00) (row 5 0x69 14 13)
 unfolding blocksFrom
 thirteen k = refl
 
-empty : RefusedAs (form Led) [] (row 5 0x69 14 0)
+pub empty : RefusedAs (form Led) [] (row 5 0x69 14 0)
 unfolding blocksFrom
 empty k = refl
 
@@ -59,7 +62,7 @@ unfolding inOrder blocksFrom readOutputCode codesKnown
 unknown k = refl
 
 pub starred-hold : AllHold starred
-unfolding starred inOrder exactLen atLeast blocksFrom declaredLen atMost room present colorOf readOutputCode codesKnown readTextCommand printable textShape bioTypeOf bioFormatOf readNakError withinLimits
+unfolding starred kindFor kindOf notTooLong readCommand readReply inOrder exactLen atLeast blocksFrom declaredLen atMost room present colorOf readOutputCode codesKnown readTextCommand printable textShape bioTypeOf bioFormatOf readNakError withinLimits
 starred-hold =
     lit 0x02
     and refl
@@ -70,6 +73,8 @@ starred-hold =
     and empty
     and zeros
     and three
+    and refl
+    and refl
     and refl
     and unknown
     and both refl refl

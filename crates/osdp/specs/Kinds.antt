@@ -1,4 +1,4 @@
--- The thirteen kinds: the row of each, and the kind that a code byte names.
+-- The thirteen kinds (R2.5): the row of each, and the kind that a code byte names.
 use Rattle.payload_util.specs.Prelude.{List, [], _∷_, ℕ, row, named, Outcome, gives, refuses, guardOf, Form, code}
 use Rattle.payload_util.specs.declared.{Guard.Guard, Guard.the-variants.Pass, Guard.the-variants.Refused}
 use Rattle.codes.specs.{CommandCode.readCommand, ReplyCode.readReply}
@@ -48,12 +48,12 @@ lookup (Refused e) found = Unknown
 unfoldable pub kindOf : Side → ℕ → Lookup
 kindOf side b = lookup (inTable side b) (named (λ k. code (form k)) Carried NotCarried (kinds side) b)
 
--- row 1 of a command's byte, row 2 of a reply's
+-- the row for an unknown code byte: row 1 for a command, row 2 for a reply
 abbrev pub unknownRow : Side → ℕ
 unknownRow Command = 1
 unknownRow Reply = 2
 
--- the kind, or rows 1 or 2 and 14
+-- the kind, or row 1, 2 or 14
 abbrev pub lookupOutcome : Side → ℕ → Lookup → Outcome Kind
 lookupOutcome side b (Carried k) = gives k
 lookupOutcome side b NotCarried = refuses (row 14 b 0 0)

@@ -1,25 +1,31 @@
--- The starred payloads of document 01, as one list.
+-- The starred payloads of R8.1, as one list.
 use Prim.Native.Nat.{_-_}
 use lib.ListN.{replicate}
-use Rattle.payload_util.specs.Prelude.{_≡_, List, [], _∷_, _++_, ℕ, length, row, refuses, Form, fixed, tailed, listed, read, strict, normalise}
-use Rattle.payload_util.specs.Form.{Record, ReadsAs}
+use Rattle.payload_util.specs.Prelude.{_≡_, List, [], _∷_, _++_, ℕ, length, row, refuses, Form, fixed, tailed, listed, read, Effect}
+use Rattle.payload_util.specs.Form.{Record, ReadsAs, written, normalise as normaliseOf}
 use Rattle.payload_util.specs.declared.{Refusal.Refusal, Guard.Guard, Guard.the-variants.Pass, Guard.the-variants.Refused}
-use Rattle.payload_util.specs.declared.Written.the-variants.{Wrote}
+use Rattle.payload_util.specs.declared.Written.the-variants.{Wrote, Refused as NotWritten}
 use Rattle.led.specs.declared.{LedRecord.LedRecord, LedColor.LedColor}
 use Rattle.led.specs.declared.LedColor.the-variants.{Black, Red, Green}
 use Rattle.output.specs.declared.OutputControlCode.the-variants.{TemporaryOnResume}
 use Rattle.text.specs.declared.TextCommand.the-variants.{PermanentNoWrap}
 use Rattle.nak.specs.declared.NakErrorCode.the-variants.{UnknownCommandCode, UnableToProcessCommandRecord}
-use Rattle.osdp.specs.declared.Kind.{Kind}
+use Rattle.osdp.specs.declared.{Side.Side, Side.the-variants.Command, Kind.Kind}
 use Rattle.osdp.specs.declared.Kind.the-variants.{Led, Out, Text, BioRead, FileTransfer, Raw, Nak}
 use Rattle.osdp.specs.Kinds.{form}
+use Rattle.osdp.specs.ByCode.{check, strict, normalise}
 
--- a payload, and what it reads as, is refused as, normalises to, or what strict says of it
+-- What a kind says: a payload and what it reads as, is refused as, or normalises to; a record, a buffer and the refusal of writing the one into the
+-- other; a list and the refusal of its record of an index. By side and code byte: what check and strict answer, and what normalise writes.
 pub data Case : Type 0 where
   reads : (k : Kind) → List ℕ → Record (form k) → Case
   isRefused : Kind → List ℕ → Refusal → Case
   normalises : Kind → List ℕ → List ℕ → Case
-  strictSays : Kind → List ℕ → Guard → Case
+  isNotWritten : (k : Kind) → Record (form k) → List ℕ → Refusal → Case
+  hasNoRecord : Kind → List ℕ → ℕ → Refusal → Case
+  checkSays : Side → ℕ → List ℕ → Guard → Case
+  strictSays : Side → ℕ → List ℕ → Guard → Case
+  normaliseGives : Side → ℕ → List ℕ → List ℕ → Case
 
 -- the reader refuses the payload; a list's, whichever record is asked for
 abbrev pub RefusedAs : Form → List ℕ → Refusal → Type 0
@@ -27,12 +33,27 @@ RefusedAs (fixed k) p e = read (fixed k) p ≡ refuses e
 RefusedAs (tailed k) p e = read (tailed k) p ≡ refuses e
 RefusedAs (listed k) p e = (i : ℕ) → read (listed k) p i ≡ refuses e
 
+abbrev pub RecordRefused : Form → List ℕ → ℕ → Refusal → Type 0
+RecordRefused (fixed k) p i e = ⊥
+RecordRefused (tailed k) p i e = ⊥
+RecordRefused (listed k) p i e = read (listed k) p i ≡ refuses e
+
+-- a buffer of zeros as long as the payload, and what is left when q is written into it
+abbrev pub zeros : List ℕ → List ℕ
+zeros p = replicate (length p) 0
+
+abbrev pub filled : List ℕ → List ℕ → Effect
+filled p q = (Wrote (length q), q ++ replicate (length p - length q) 0)
+
 abbrev pub Holds : Case → Type 0
 Holds (reads k p r) = ReadsAs (form k) p r
 Holds (isRefused k p e) = RefusedAs (form k) p e
--- into a buffer of zeros as long as the payload
-Holds (normalises k p q) = normalise (form k) p (replicate (length p) 0) ≡ (Wrote (length q), q ++ replicate (length p - length q) 0)
-Holds (strictSays k p g) = strict (form k) p ≡ g
+Holds (normalises k p q) = normaliseOf (form k) p (zeros p) ≡ filled p q
+Holds (normaliseGives side b p q) = normalise side b p (zeros p) ≡ filled p q
+Holds (isNotWritten k r out e) = written (form k) r out ≡ (NotWritten e, out)
+Holds (hasNoRecord k p i e) = RecordRefused (form k) p i e
+Holds (checkSays side b p g) = check side b p ≡ g
+Holds (strictSays side b p g) = strict side b p ≡ g
 
 infixr 10 _and_
 pub data AllHold : List Case → Type 0 where
@@ -63,15 +84,17 @@ dark = record {
 unfoldable pub starred : List Case
 starred =
     reads Led (greenBytes 0x02) (green Green ∷ [])
-    ∷ strictSays Led (greenBytes 0x02) Pass
+    ∷ strictSays Command 0x69 (greenBytes 0x02) Pass
     ∷ reads Led (greenBytes 0x08) (green Black ∷ [])
     ∷ normalises Led (greenBytes 0x08) (greenBytes 0x00)
-    ∷ strictSays Led (greenBytes 0x08) (Refused (row 17 0x69 5 8))
+    ∷ strictSays Command 0x69 (greenBytes 0x08) (Refused (row 17 0x69 5 8))
     ∷ isRefused Led (replicate 13 0x00) (row 5 0x69 14 13)
     ∷ isRefused Led [] (row 5 0x69 14 0)
     ∷ reads Led (replicate 28 0x00) (dark ∷ dark ∷ [])
     ∷ reads Out (0x03 ∷ 0x05 ∷ 0x0A ∷ 0x00 ∷ []) (record { output = 3; code = TemporaryOnResume; timer = 10 } ∷ [])
     ∷ normalises Out (0x03 ∷ 0x05 ∷ 0x0A ∷ 0x00 ∷ []) (0x03 ∷ 0x05 ∷ 0x0A ∷ 0x00 ∷ [])
+    ∷ checkSays Command 0x68 (0x03 ∷ 0x05 ∷ 0x0A ∷ 0x00 ∷ []) Pass
+    ∷ normaliseGives Command 0x68 (0x03 ∷ 0x05 ∷ 0x0A ∷ 0x00 ∷ []) (0x03 ∷ 0x05 ∷ 0x0A ∷ 0x00 ∷ [])
     ∷ isRefused Out (0x03 ∷ 0x05 ∷ 0x0A ∷ 0x00 ∷ 0x04 ∷ 0x07 ∷ 0x00 ∷ 0x00 ∷ []) (row 7 0x68 0 0)
     ∷ reads Text (0x00 ∷ 0x01 ∷ 0x00 ∷ 0x01 ∷ 0x01 ∷ 0x02 ∷ 0x48 ∷ 0x69 ∷ []) (record { reader = 0; command = PermanentNoWrap; «temp_time_s» = 0; row = 1; column = 1 }, 0x48 ∷ 0x69 ∷ [])
     ∷ isRefused Text (0x00 ∷ 0x09 ∷ 0x00 ∷ 0x01 ∷ 0x01 ∷ 0x01 ∷ 0x1F ∷ []) (row 8 0x6B 0 0)
@@ -82,7 +105,7 @@ starred =
     ∷ normalises Nak (0x03 ∷ 0xAA ∷ []) (0x03 ∷ [])
     ∷ reads Nak (0x09 ∷ 0xAA ∷ []) (record { error = UnableToProcessCommandRecord }, 0xAA ∷ [])
     ∷ normalises BioRead (0x00 ∷ 0x12 ∷ 0x03 ∷ 0x32 ∷ []) (0x00 ∷ 0x00 ∷ 0x00 ∷ 0x32 ∷ [])
-    ∷ strictSays BioRead (0x00 ∷ 0x12 ∷ 0x03 ∷ 0x32 ∷ []) (Refused (row 17 0x73 1 0x12))
+    ∷ strictSays Command 0x73 (0x00 ∷ 0x12 ∷ 0x03 ∷ 0x32 ∷ []) (Refused (row 17 0x73 1 0x12))
     ∷ reads FileTransfer (0x01 ∷ 0x05 ∷ 0x00 ∷ 0x00 ∷ 0x00 ∷ 0x00 ∷ 0x00 ∷ 0x00 ∷ 0x00 ∷ 0x02 ∷ 0x00 ∷ 0xAB ∷ 0xCD ∷ [])
     (record { «file_type» = 1; «total_size» = 5; offset = 0 }, 0xAB ∷ 0xCD ∷ [])
     ∷ []

@@ -1,21 +1,21 @@
--- The laws of OUT's codes, and OUT's part of demand 3.
+-- The laws of OUT's codes, and OUT's law.
 -- Assumes nothing.
-use mathlib.Core.Path.{_≡_, refl}
-use mathlib.Core.List.{List}
-use Prim.Native.Nat.{ℕ, suc, _+_, _*_, _/_, _≤_, _<_}
+use mathlib.Core.Path.{_≡_, refl, ap}
+use mathlib.Core.List.{List, [], _∷_}
+use Prim.Native.Nat.{ℕ, zero, suc, _+_, _*_, _/_, _≤_, _<_}
 use native.Mathlib.Nat.{mod-add-div}
 use native.Mathlib.Omega.{arith}
 use borrow.Author.Tests.{le-leb}
 use lib.ListN.{length, drop, length-drop}
 use lib.Seq.{getD-drop}
-use Rattle.payload_util.specs.Bytes.{byteAt}
-use Rattle.payload_util.specs.Refusals.{row}
+use Rattle.payload_util.specs.Bytes.{byteAt, flat}
+use Rattle.payload_util.specs.Refusals.{row, inOrder}
 use Rattle.payload_util.specs.Guards.{atLeast, positiveMultipleOf}
 use Rattle.payload_util.specs.Outcome.{gives, guardOf, valueOr}
 use Rattle.payload_util.specs.Form.{check}
 use Rattle.payload_util.specs.declared.Guard.the-variants.{Pass}
-use Rattle.payload_util.proofs.Guards.{also-pass, multiple-pass}
-use Rattle.payload_util.proofs.InOrder.{all-pass}
+use Rattle.payload_util.proofs.Guards.{also-pass, multiple-pass, pass-multiple}
+use Rattle.payload_util.proofs.InOrder.{all-pass, pass-all}
 use Rattle.payload_util.proofs.Table.{exact, exact-value}
 use Rattle.payload_util.proofs.Words.{low-byte, high-byte}
 use Rattle.payload_util.proofs.Parts.{by-head}
@@ -23,6 +23,7 @@ use Rattle.payload_util.proofs.Each.{each-kept}
 use Rattle.payload_util.proofs.Scheme.{Law}
 use Rattle.payload_util.proofs.Forms.{listed-law}
 use Rattle.output.specs.Output.{outCode, outputByte, outputCodes, readOutputCode, codeKnown, codesKnown, outOf, readOutAt, outBytes, outputs}
+use Rattle.output.specs.declared.OutputRecord.{OutputRecord}
 use Rattle.output.specs.declared.OutputControlCode.{OutputControlCode}
 use Rattle.output.specs.declared.OutputControlCode.the-variants.{Nop, PermanentOffAbortTimed, PermanentOnAbortTimed, PermanentOffAllowTimed, PermanentOnAllowTimed, TemporaryOnResume, TemporaryOffResume}
 
@@ -46,6 +47,27 @@ output-kept : (b : ℕ) → guardOf (readOutputCode b) ≡ Pass → outputByte (
 unfolding readOutputCode
 output-kept b e = exact-value outputByte (row 7 outCode 0 0) outputCodes b Nop e
 
+-- the bytes up to 6 are codes
+low-known : (b : ℕ) → b ≤ 6 → guardOf (readOutputCode b) ≡ Pass
+unfolding readOutputCode
+low-known zero h = refl
+low-known (suc zero) h = refl
+low-known (suc (suc zero)) h = refl
+low-known (suc (suc (suc zero))) h = refl
+low-known (suc (suc (suc (suc zero)))) h = refl
+low-known (suc (suc (suc (suc (suc zero))))) h = refl
+low-known (suc (suc (suc (suc (suc (suc zero)))))) h = refl
+low-known (suc (suc (suc (suc (suc (suc (suc b))))))) h = absurd (omega arith)
+
+pub four-pass : (p : List ℕ) (k : ℕ) → byteAt p (4 * k + 1) ≤ 6 → byteAt p (4 * k + 5) ≤ 6 → byteAt p (4 * k + 9) ≤ 6
+    → byteAt p (4 * k + 13) ≤ 6 → inOrder (codeKnown p) k 4 ≡ Pass
+unfolding inOrder
+four-pass p k a b c d =
+    let second : 4 * suc k + 1 ≡ 4 * k + 5 = omega arith in
+    let third : 4 * suc (suc k) + 1 ≡ 4 * k + 9 = omega arith in
+    let fourth : 4 * suc (suc (suc k)) + 1 ≡ 4 * k + 13 = omega arith in
+    rw (second, third, fourth, low-known _ a, low-known _ b, low-known _ c, low-known _ d)
+
 module _ (p : List ℕ) (g : check outputs p ≡ Pass) where
   out-blocks : (length p ≡ length p / 4 * 4) × (0 < length p / 4)
   out-blocks = multiple-pass 4 outCode p (also-pass (positiveMultipleOf 4 outCode p) (codesKnown p) g .0)
@@ -61,6 +83,19 @@ module _ (p : List ℕ) (g : check outputs p ≡ Pass) where
       let long : 4 ≤ length (drop (4 * k) p) = simp length-drop (omega arith) in
       simp (le-leb 4 (length (drop (4 * k) p)) long, getD-drop (4 * k) p 1 0, out-codes k h)
 
+-- the codes of records are known in their bytes
+code-written : (rs : List OutputRecord) (k : ℕ) → k < length rs → codeKnown (flat outBytes rs) k ≡ Pass
+code-written [] k h = absurd (omega arith)
+code-written (r ∷ rs) zero h = simp output-back
+code-written (r ∷ rs) (suc k) h =
+    let e : 4 * suc k + 1 ≡ suc (suc (suc (suc (4 * k + 1)))) = omega arith in
+    rw e (code-written rs k (omega arith))
+
+written-codes : (rs : List OutputRecord) → length (flat outBytes rs) ≡ length rs * 4 → codesKnown (flat outBytes rs) ≡ Pass
+unfolding codesKnown
+written-codes rs e =
+    pass-all (codeKnown (flat outBytes rs)) (length (flat outBytes rs) / 4) (λ k h. code-written rs k (omega (arith, ap (λ (n : ℕ). n / 4) e)))
+
 pub out-law : Law outputs
 out-law =
     listed-law (λ r. refl) (λ r t. simp (mod-add-div, output-back)) (omega arith) (λ p g. out-blocks p g .1)
@@ -74,3 +109,4 @@ out-law =
     ))
     (length p / 4) p b (out-blocks p g .0) (out-codes p g))
     (λ p g. g)
+    (λ rs some e. simp (pass-multiple 4 outCode (flat outBytes rs) (length rs) (omega arith) some e, written-codes rs e))

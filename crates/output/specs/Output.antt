@@ -1,4 +1,4 @@
--- osdp_OUT (0x68), §6.8, Table 14: records of four bytes: output, code, timer of two bytes.
+-- osdp_OUT (0x68), R4.2, §6.8, Table 14: records of four bytes. Output, code and timer u16.
 use Rattle.payload_util.specs.Prelude.{List, [], _∷_, ℕ, _+_, _*_, _/_, length, byteAt, u16At, u16Bytes, row, _also_, atLeast, positiveMultipleOf, inOrder}
 use Rattle.payload_util.specs.Prelude.{named, Outcome, gives, refuses, outcome, guardOf, valueOr, nothing, Form, listed}
 use Rattle.payload_util.specs.declared.Guard.{Guard}
@@ -11,7 +11,7 @@ use Rattle.output.specs.declared.{OutputRecord.OutputRecord, OutputRead.
 abbrev pub outCode : ℕ
 outCode = 0x68
 
--- Table 14
+-- Table 14, R3.7
 abbrev pub outputByte : OutputControlCode → ℕ
 outputByte Nop = 0x00
 outputByte PermanentOffAbortTimed = 0x01
@@ -26,7 +26,7 @@ outputCodes =
     Nop ∷ PermanentOffAbortTimed ∷ PermanentOnAbortTimed ∷ PermanentOffAllowTimed ∷ PermanentOnAllowTimed ∷ TemporaryOnResume
     ∷ TemporaryOffResume ∷ []
 
--- row 7
+-- the code that has this byte; row 7 for any other byte
 unfoldable pub readOutputCode : ℕ → Outcome OutputControlCode
 readOutputCode b = named outputByte gives (refuses (row 7 outCode 0 0)) outputCodes b
 
@@ -34,7 +34,7 @@ abbrev pub outputCodeOutcome : OutputControlCodeRead → Outcome OutputControlCo
 outputCodeOutcome (CodeRead c) = gives c
 outputCodeOutcome (CodeRefused e) = refuses e
 
--- the code of the record of an index, and of all records in order
+-- the code of the record at an index is known; the codes of all records are known, in order
 abbrev pub codeKnown : List ℕ → ℕ → Guard
 codeKnown p index = guardOf (readOutputCode (byteAt p (4 * index + 1)))
 
@@ -48,7 +48,7 @@ abbrev pub outOutcome : OutputRead → Outcome OutputRecord
 outOutcome (Read r) = gives r
 outOutcome (Refused e) = refuses e
 
--- the record that the first bytes hold
+-- the record in the first bytes: row 4, then row 7
 abbrev pub readOutAt : List ℕ → Outcome OutputRecord
 readOutAt q = outcome (atLeast 4 outCode q also guardOf (readOutputCode (byteAt q 1))) (outOf q)
 

@@ -12,9 +12,10 @@ use payload_util::require_positive_multiple_of;
 use payload_util::require_present;
 use payload_util::tail_from;
 use payload_util::u16_at;
-ghost use Rattle.payload_util.specs.Prelude.{_≡_, _*_, _/_, _≤_, length, drop, guardOf, check, read, write, normalise};
+ghost use mathlib.Core.Bool.{true};
+ghost use Rattle.payload_util.specs.Prelude.{_≡_, _+_, _*_, _/_, _≤_, length, drop, inOrder, guardOf, check, read, write, normalise};
 ghost use Rattle.lists.specs.List.{putAt};
-ghost use Rattle.output.specs.Output.{outOutcome, outCode, outputByte, readOutputCode, outputCodeOutcome, codesKnown, readOutAt, outBytes, outputs};
+ghost use Rattle.output.specs.Output.{outOutcome, outCode, outputByte, readOutputCode, outputCodeOutcome, codeKnown, codesKnown, readOutAt, outBytes, outputs};
 
 // Table 14.
 pub enum OutputControlCode {
@@ -33,7 +34,9 @@ pub enum OutputControlCodeRead {
 }
 
 impl OutputControlCode {
-    // Row 7.
+    const HIGHEST: u8 = 6;
+
+    // Row 7 if no code has this byte.
     pub fn from_byte(b: u8) -> OutputControlCodeRead
         ensures { λ r. ⌜ outputCodeOutcome r ≡ readOutputCode b ⌝ }
     {
@@ -54,7 +57,7 @@ impl OutputControlCode {
         }
     }
 
-    // Whether the byte is a code's.
+    // Passes if a code has this byte.
     fn check(b: u8) -> Guard
         ensures { λ r. ⌜ r ≡ guardOf (readOutputCode b) ⌝ }
     {
@@ -96,7 +99,7 @@ impl OutputRecord {
 
     pub const WIRE_LEN: usize = 4;
 
-    // The whole list: one unknown code refuses it.
+    // Checks the whole list: one unknown code refuses it.
     pub fn check(p: &[u8]) -> Guard
         ensures { λ r. ⌜ r ≡ check outputs (now (p .entry)) ⌝ }
     {
@@ -107,18 +110,40 @@ impl OutputRecord {
         Self::check_codes(p)
     }
 
-    // The codes of all records, in order.
+    // Says yes only if the codes of the four records from an index on are known.
+    fn four_known(p: &[u8], index: usize) -> bool
+        requires { ⌜ index + 4 ≤ length (now p) / 4 ⌝ }
+        ensures { λ r. ⌜ (r ≡ true → inOrder (codeKnown (now (p .entry))) index 4 ≡ Guard.Pass) ⌝ }
+    {
+        let start = Self::WIRE_LEN * index;
+        if OutputControlCode::HIGHEST < p[start + 1] {
+            return false;
+        }
+        if OutputControlCode::HIGHEST < p[start + 5] {
+            return false;
+        }
+        if OutputControlCode::HIGHEST < p[start + 9] {
+            return false;
+        }
+        p[start + 13] <= OutputControlCode::HIGHEST
+    }
+
+    // Checks the codes of all records, in order: four at a time while they are known, else one.
     fn check_codes(p: &[u8]) -> Guard
         ensures { λ r. ⌜ r ≡ codesKnown (now (p .entry)) ⌝ }
     {
         let n = Self::count(p);
         let mut k: usize = 0;
         while k < n {
-            let known = OutputControlCode::check(p[Self::WIRE_LEN * k + 1]);
-            let Guard::Pass = known else {
-                return known;
-            };
-            k += 1;
+            if 4 <= n - k && Self::four_known(p, k) {
+                k += 4;
+            } else {
+                let known = OutputControlCode::check(p[Self::WIRE_LEN * k + 1]);
+                let Guard::Pass = known else {
+                    return known;
+                };
+                k += 1;
+            }
         }
         Guard::Pass
     }
@@ -130,7 +155,7 @@ impl OutputRecord {
         p.len() / Self::WIRE_LEN
     }
 
-    // The record of an index; the whole list is checked first.
+    // The record at an index; the whole list is checked first.
     pub fn decode(p: &[u8], index: usize) -> OutputRead
         ensures { λ r. ⌜ outOutcome r ≡ read outputs (now (p .entry)) index ⌝ }
     {
@@ -145,7 +170,7 @@ impl OutputRecord {
         Self::decode_at(p, Self::WIRE_LEN * index)
     }
 
-    // The record whose bytes start at an offset, wherever that is: row 4 where fewer than 4 bytes are left from there, row 7.
+    // The record whose bytes start at any offset: row 4 if fewer than 4 bytes are left from there, then row 7.
     pub fn decode_at(p: &[u8], offset: usize) -> OutputRead
         ensures { λ r. ⌜ outOutcome r ≡ readOutAt (drop offset (now (p .entry))) ⌝ }
     {
@@ -164,7 +189,7 @@ impl OutputRecord {
         }
     }
 
-    // The record's bytes into out from an offset on; row 15 where they do not fit.
+    // Writes the record's bytes into out from any offset on; row 15 if they do not fit.
     pub fn encode_at(self, out: &mut [u8], offset: usize) -> Written
         ensures { λ r. ⌜ (r, now (out .exit)) ≡ putAt outCode offset (outBytes self) (now (out .entry)) ⌝ }
     {
@@ -178,7 +203,7 @@ impl OutputRecord {
         put_at(&bytes, Self::CODE, out, offset)
     }
 
-    // A lent list, record by record from the front of out: row 11 for an empty list, then row 15.
+    // Writes a lent list, record by record from the front of out: row 11 for an empty list, then row 15.
     pub fn encode(records: &[OutputRecord], out: &mut [u8]) -> Written
         ensures { λ r. ⌜ (r, now (out .exit)) ≡ write outputs (now (records .entry)) (now (out .entry)) ⌝ }
     {

@@ -1,4 +1,4 @@
--- Bytes folded in place: a payload is written as it came, and then folded where it stands.
+-- Bytes folded in place: a payload is written as it came, and then folded where it is.
 -- Assumes nothing.
 use mathlib.Core.Path.{_≡_, refl, sym, ap, _∙_}
 use mathlib.Core.List.{List, [], _∷_, _++_, append-assoc, append-nil}
@@ -37,14 +37,14 @@ keep-none : (ls : List Keep) → keep ls [] ≡ []
 keep-none [] = refl
 keep-none (l ∷ ls) = refl
 
--- those that come later are kept from what is there
+-- later limits apply to what the earlier ones leave
 pub keep-append : (ms ls : List Keep) (p : List ℕ)
     → keep (ms ++ ls) p ≡ take (length ms) (keep ms p) ++ keep ls (drop (length ms) (keep ms p))
 keep-append [] ls p = refl
 keep-append (m ∷ ms) ls [] = sym (keep-none ls)
 keep-append (m ∷ ms) ls (b ∷ bs) = ap (λ (l : List ℕ). kept m b ∷ l) (keep-append ms ls bs)
 
--- limits before an offset leave what stands from there on
+-- limits before an offset leave the bytes from there on as they are
 pub drop-keep : (ls : List Keep) (p : List ℕ) → drop (length ls) (keep ls p) ≡ drop (length ls) p
 drop-keep [] p = refl
 drop-keep (l ∷ ls) [] = refl
@@ -68,14 +68,14 @@ pub length-times : (n : ℕ) (ls : List Keep) → length (times n ls) ≡ n * le
 length-times zero ls = sym (zero-mul (length ls))
 length-times (suc n) ls = length-append ls (times n ls) ∙ omega (arith, length-times n ls, suc-mul n (length ls))
 
--- ---- a payload was put, and is folded where it stands
+-- ---- a payload was put, and is folded where it is
 
 module _ (g : Guard) (code : ℕ) (ls : List Keep) (p out : List ℕ) {w : Written} {e : List ℕ}
     (is : _≡_ {A = Effect} (w, e) (putChecked g code p out)) where
   abbrev all : Guard
   all = roomLast g (room code (length p) (length out))
 
-  -- it stands at the front
+  -- it is at the front
   pub put-front : {n : ℕ} → w ≡ Wrote n → take (length p) e ≡ p
   put-front {n} h = go all is
     where

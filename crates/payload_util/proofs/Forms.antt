@@ -19,36 +19,48 @@ module _ {A : Type 0} {k : Fixed A} where
       → ((p : List ℕ) → Bytes p → check (fixed k) p ≡ Pass → k .refuse (k .code) (k .fields p) ≡ Pass)
       → ((r : A) → k .refuse (k .code) r ≡ Pass → k .fields (k .bytes r) ≡ r)
       → ((p : List ℕ) → check (fixed k) p ≡ Pass → check (fixed k) (without (k .loss) p) ≡ Pass)
+      → ((r : A) → k .refuse (k .code) r ≡ Pass → check (fixed k) (k .bytes r) ≡ Pass)
       → Law (fixed k)
-  fixed-law keeps writable restores steady = record {
+  fixed-law keeps writable restores steady readable = record {
     some = λ p g. tt;
     kept = keeps;
     writable = writable;
     back = k .fields;
     restored = restores;
     steady = steady;
+    readable = readable;
+    reread = λ r w u. restores r w;
   }
 
--- the tail starts at n in what is written
+-- the tail starts at n in what is written, and is read from there unless reading cuts it off
 module _ {A : Type 0} {k : Tailed A} (n : ℕ) where
   pub tailed-law : ((p : List ℕ) → Bytes p → check (tailed k) p ≡ Pass → k .bytes (k .fields p) (k .rest p) ≡ without (k .loss) p)
       → ((p : List ℕ) → Bytes p → check (tailed k) p ≡ Pass → k .refuse (k .code) (k .fields p) (k .rest p) ≡ Pass)
       → ((r : A) (t : List ℕ) → k .refuse (k .code) r t ≡ Pass → k .fields (k .bytes r t) ≡ r)
       → ((r : A) (t : List ℕ) → drop n (k .bytes r t) ≡ t)
+      → ((p : List ℕ) → length (without (k .loss) p) ≡ length p → k .rest p ≡ drop n p)
       → ((p : List ℕ) → check (tailed k) p ≡ Pass → check (tailed k) (without (k .loss) p) ≡ Pass)
+      → ((r : A) (t : List ℕ) → k .refuse (k .code) r t ≡ Pass → check (tailed k) (k .bytes r t) ≡ Pass)
       → Law (tailed k)
-  tailed-law keeps writable restores restores-tail steady = record {
+  tailed-law keeps writable restores restores-tail rest-is steady readable = record {
     some = λ p g. tt;
     kept = keeps;
     writable = writable;
     back = λ p. (k .fields p, drop n p);
     restored = λ r w i. (restores (r .0) (r .1) w i, restores-tail (r .0) (r .1) i);
     steady = steady;
+    readable = λ r w. readable (r .0) (r .1) w;
+    reread = λ r w u i.
+        (restores (r .0) (r .1) w i, (rest-is (k .bytes (r .0) (r .1)) u ∙ restores-tail (r .0) (r .1)) i);
   }
 
 not-empty : {A : Type 0} (code : ℕ) (rs : List A) → zero < length rs → notEmpty code rs ≡ Pass
 not-empty code [] h = absurd (omega arith)
 not-empty code (r ∷ rs) h = refl
+
+some-records : {A : Type 0} (code : ℕ) (rs : List A) → notEmpty code rs ≡ Pass → zero < length rs
+some-records code [] h = let z : _≡_ {A = ℕ} 0 1 = cc in absurd (omega arith)
+some-records code (r ∷ rs) h = omega arith
 
 -- each record has its bytes, and is read back from them
 module _ {A : Type 0} {k : Listed A} where
@@ -58,19 +70,25 @@ module _ {A : Type 0} {k : Listed A} where
       → ((p : List ℕ) → check (listed k) p ≡ Pass → zero < length p / k .width)
       → ((p : List ℕ) → Bytes p → check (listed k) p ≡ Pass → flat (k .bytes) (each (k .fields) (k .width) (length p / k .width) p) ≡ without (k .loss) p)
       → ((p : List ℕ) → check (listed k) p ≡ Pass → check (listed k) (without (k .loss) p) ≡ Pass)
+      → ((rs : List A) → zero < length rs → length (flat (k .bytes) rs) ≡ length rs * k .width → check (listed k) (flat (k .bytes) rs) ≡ Pass)
       → Law (listed k)
-  listed-law size restores pos some keeps steady = record {
+  listed-law size restores pos some keeps steady readable = record {
     some = some;
     kept = keeps;
     writable = λ p b h.
         not-empty (k .code) (records p) (subst (λ (n : ℕ). zero < n) (sym (length-each (k .fields) (k .width) (length p / k .width) p)) (some p h));
     back = records;
-    restored = λ rs x.
-        ap (λ (n : ℕ). each (k .fields) (k .width) n (flat (k .bytes) rs))
-        (ap (λ (n : ℕ). n / k .width) (length-flat (k .fields) (k .bytes) (k .width) size restores rs) ∙ mul-div-cancel (length rs) pos)
-        ∙ each-back (k .fields) (k .bytes) (k .width) size restores rs;
+    restored = λ rs x. again rs;
     steady = steady;
+    readable = λ rs w. readable rs (some-records (k .code) rs w) (length-flat (k .fields) (k .bytes) (k .width) size restores rs);
+    reread = λ rs w u. again rs;
   }
     where
       records : List ℕ → List A
       records p = each (k .fields) (k .width) (length p / k .width) p
+
+      again : (rs : List A) → records (flat (k .bytes) rs) ≡ rs
+      again rs =
+          ap (λ (n : ℕ). each (k .fields) (k .width) n (flat (k .bytes) rs))
+          (ap (λ (n : ℕ). n / k .width) (length-flat (k .fields) (k .bytes) (k .width) size restores rs) ∙ mul-div-cancel (length rs) pos)
+          ∙ each-back (k .fields) (k .bytes) (k .width) size restores rs

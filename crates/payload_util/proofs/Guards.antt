@@ -4,7 +4,7 @@ use mathlib.Core.Path.{_≡_, refl, sym, ap, _∙_}
 use mathlib.Core.Bool.{Bool, true, false, _&&_}
 use mathlib.Core.List.{List}
 use Prim.Native.Nat.{ℕ, zero, suc, _+_, _*_, _/_, _%_, _≤_, _<_}
-use native.Mathlib.Nat.{div-add-mod', zero-mul}
+use native.Mathlib.Nat.{div-add-mod', zero-mul, suc-mul, mul-mod-left}
 use native.Mathlib.Omega.{arith}
 use borrow.Author.Tests.{leb-true, eqb-true, ltb-true, le-leb, lt-ltb, eq-eqb}
 use lib.ListN.{length, drop, length-drop}
@@ -30,14 +30,14 @@ pub also-pass : (g h : Guard) → (g also h) ≡ Pass → (g ≡ Pass) × (h ≡
 also-pass Pass h e = (refl, e)
 also-pass (Refused r) h e = let z : _≡_ {A = ℕ} 0 1 = cc in absurd (omega arith)
 
--- the same one by one: `search (also-left, also-right)` finds any guard of a row
+-- the two halves of `also-pass`: with them, `search (also-left, also-right)` finds any guard of a row
 pub also-left : (g h : Guard) → (g also h) ≡ Pass → g ≡ Pass
 also-left g h e = also-pass g h e .0
 
 pub also-right : (g h : Guard) → (g also h) ≡ Pass → h ≡ Pass
 also-right g h e = also-pass g h e .1
 
--- a record is given where the checks pass
+-- a record is given only if the checks pass
 pub gives-pass : {A : Type 0} (g : Guard) (a r : A) → outcome g a ≡ gives r → (g ≡ Pass) × (a ≡ r)
 gives-pass Pass a r e = (refl, cc)
 gives-pass (Refused f) a r e = let z : _≡_ {A = ℕ} 0 1 = cc in absurd (omega arith)
@@ -51,6 +51,10 @@ module _ (n code : ℕ) (p : List ℕ) where
   unfolding atLeast
   least-pass h = leb-true _ _ (check-pass _ _ h)
 
+  pub pass-least : n ≤ length p → atLeast n code p ≡ Pass
+  unfolding atLeast
+  pass-least h = simp (le-leb _ _ h)
+
   pub declared-pass : declaredLen n code p ≡ Pass → length p ≡ n
   unfolding declaredLen
   declared-pass h = eqb-true _ _ (check-pass _ _ h)
@@ -63,6 +67,10 @@ module _ (n code : ℕ) (p : List ℕ) where
   unfolding atMost
   pass-most h = simp (le-leb _ _ h)
 
+  pub tail-len-pass : tailLen n code p ≡ Pass → length p ≡ n
+  unfolding tailLen
+  tail-len-pass h = eqb-true _ _ (check-pass _ _ h)
+
   pub pass-tail-len : length p ≡ n → tailLen n code p ≡ Pass
   unfolding tailLen
   pass-tail-len h = simp (eq-eqb _ _ h)
@@ -73,6 +81,10 @@ module _ (n code : ℕ) (p : List ℕ) where
       let (least, all) = also-pass (atLeast n code p) (declaredLen (n + m) code p) e in
       let l : length p ≡ n + m = eqb-true _ _ (check-pass _ _ all) in
       (least-pass least, length-drop n p ∙ omega arith)
+
+  pub pass-head-and-tail : (m : ℕ) → length p ≡ n + m → headAndTail n m code p ≡ Pass
+  unfolding declaredLen
+  pass-head-and-tail m e = simp (pass-least (omega arith), eq-eqb _ _ e)
 
   pub multiple-pass : positiveMultipleOf n code p ≡ Pass → (length p ≡ length p / n * n) × (zero < length p / n)
   unfolding blocksFrom
@@ -86,6 +98,14 @@ module _ (n code : ℕ) (p : List ℕ) where
       some : (m : ℕ) → length p ≡ m * n → zero < length p → zero < m
       some zero e pos = absurd (omega (arith, zero-mul n))
       some (suc m) e pos = omega arith
+
+  pub pass-multiple : (m : ℕ) → zero < n → zero < m → length p ≡ m * n → positiveMultipleOf n code p ≡ Pass
+  unfolding blocksFrom
+  pass-multiple (suc m) wide some e =
+      let l : 1 ≤ length p = omega (arith, suc-mul m n) in
+      let r : length p % n ≡ 0 = ap (λ (k : ℕ). k % n) e ∙ mul-mod-left (suc m) n in
+      simp (lt-ltb _ _ wide, le-leb _ _ l, eq-eqb _ _ r)
+  pass-multiple zero wide some e = absurd (omega arith)
 
 pub room-pass : (code needed given : ℕ) → room code needed given ≡ Pass → needed ≤ given
 unfolding room
@@ -108,7 +128,7 @@ pass-present code k count h = simp (lt-ltb _ _ h)
 pub passed : {f g : Guard} → f ≡ g → f ≡ Pass → g ≡ Pass
 passed e p = cc
 
--- the answer is handed on where it is a refusal
+-- the answer is handed on if it is a refusal
 pub stopped : {f g : Guard} {e : Refusal} (h : Guard) → f ≡ g → f ≡ Refused e → f ≡ (g also h)
 stopped h q p = p ∙ simp (sym q ∙ p)
 

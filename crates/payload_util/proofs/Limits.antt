@@ -15,7 +15,7 @@ use Rattle.payload_util.specs.declared.Guard.{Guard}
 use Rattle.payload_util.specs.declared.Guard.the-variants.{Pass}
 use Rattle.payload_util.proofs.InOrder.{up-to}
 
--- a row where the byte at an offset is above the highest, as `require_limit` gives it
+-- the row if the byte at an offset is above the highest, as `require_limit` gives it
 abbrev pub limitAt : ℕ → ℕ → ℕ → List ℕ → ℕ → Guard
 limitAt number code highest p offset = require (leb (byteAt p offset) highest) (row number code offset (byteAt p offset))
 

@@ -27,7 +27,7 @@ pub paste-front : (d s : List ℕ) (at k : ℕ) → k ≤ length s → paste d a
 paste-front d s at k h = rw (take-length, length-take-le k s h)
 
 module _ (d s : List ℕ) (at i : ℕ) (fits : at + length s ≤ length d) (within : i ≤ length s) where
-  -- what stands before an offset that the copy of the first i elements has passed
+  -- what is before an offset that the copy of the first i elements has passed
   before-paste : (j : ℕ) → j ≤ i → take (at + j) (paste d at s i) ≡ take at d ++ take j s
   before-paste j h =
       let a : length (take at d) ≡ at = length-take-le at d (omega arith) in
@@ -37,7 +37,7 @@ module _ (d s : List ℕ) (at i : ℕ) (fits : at + length s ≤ length d) (with
       ∙ take-append-add (take at d) (take i s) j
       ∙ ap (λ (l : List ℕ). take at d ++ l) (take-take j i s h)
 
-  -- after it, a copy of the part from j to k is a copy of the first k, where the part starts at i or before, and ends at i or after
+  -- after it, a copy of the part from j to k is a copy of the first k, if the part starts at i or before, and ends at i or after
   pub paste-part : (j k : ℕ) → j ≤ i → i ≤ k → k ≤ length s
       → paste (paste d at s i) (at + j) (take (k - j) (drop j s)) (length (take (k - j) (drop j s))) ≡ paste d at s k
   paste-part j k hj hi hk =
@@ -54,7 +54,7 @@ pub one-part : (code : ℕ) (p out d : List ℕ) → room code (length p) (lengt
     → (Wrote (length p), d) ≡ put code p out
 one-part code p out d fits q = simp (fits, q, take-length, zero-add)
 
--- d is the buffer with the head, and e the same with the tail after it
+-- d is the buffer with the head, and e is d with the tail after it
 pub two-parts : (code : ℕ) (h t out d e : List ℕ) → room code (length h + length t) (length out) ≡ Pass
     → d ≡ paste out 0 h (length h) → e ≡ paste d (length h) t (length t)
     → (Wrote (length h + length t), e) ≡ put code (h ++ t) out
@@ -74,7 +74,7 @@ spelled (suc n) j p h =
     ∙ (let e : suc j + n ≡ j + suc n = omega arith in
     ap (λ (l : List ℕ). getD p j 0 ∷ l) (spelled n (suc j) p (omega arith) ∙ ap (λ (k : ℕ). spell n (suc j) p ++ drop k p) e))
 
--- to show what a function gives of a payload, show what it gives of the bytes one by one
+-- to show what a function gives for a payload, show what it gives for the bytes one by one
 pub by-head : {B : Type 0} (n : ℕ) (p : List ℕ) (f : List ℕ → B) {b : B} → n ≤ length p → b ≡ f (spell n 0 p ++ drop n p) → b ≡ f p
 by-head n p f h e =
     e ∙ ap f (ap (λ (k : ℕ). spell n 0 p ++ drop k p) (sym (zero-add n)) ∙ sym (spelled n 0 p (omega arith)))

@@ -1,4 +1,4 @@
--- Demand 3 and normalise for one kind follow from its row and its law.
+-- What a kind owes for its row, its law; and what follows from it: R1.3, normalise, and that what is written is read.
 -- Assumes nothing.
 use mathlib.Core.Path.{_≡_, refl, sym, ap, ap₂, _∙_}
 use mathlib.Core.Logic.{_↔_}
@@ -27,7 +27,7 @@ Some (fixed k) p = Unit
 Some (tailed k) p = Unit
 Some (listed k) p = zero < length p / k .width
 
--- What a kind owes for its row.
+-- What has to be proved of a kind's row.
 pub record Law (f : Form) : Type 0 where
   pub some : (p : List ℕ) → check f p ≡ Pass → Some f p
   -- writing what was read gives the payload without what is lost, and is not refused
@@ -38,8 +38,11 @@ pub record Law (f : Form) : Type 0 where
   pub restored : (r : Record f) → refuse f r ≡ Pass → back (bytes f r) ≡ r
   -- what is accepted stays accepted without what is lost
   pub steady : (p : List ℕ) → check f p ≡ Pass → check f (without (loss f) p) ≡ Pass
+  -- what is written is accepted, and holds the record, unless reading cuts a part of it off
+  pub readable : (r : Record f) → refuse f r ≡ Pass → check f (bytes f r) ≡ Pass
+  pub reread : (r : Record f) → refuse f r ≡ Pass → length (without (loss f) (bytes f r)) ≡ length (bytes f r) → whole f (bytes f r) ≡ r
 
--- ---- what a reader gives is what stands in a payload that passes
+-- ---- what a reader gives is what is in a payload that passes
 
 module _ {A : Type 0} (k : Listed A) (p : List ℕ) where
   abbrev guard : ℕ → Guard
@@ -90,6 +93,12 @@ reads (tailed {A} k) law p r = (
 )
 reads (listed k) law p rs = list-reads k p (law .some p) rs
 
+-- what reads as a record is accepted
+record-zero : (f : Form) (p : List ℕ) (r : Record f) → ReadsAs f p r → Accepted f p
+record-zero (fixed k) p r e = (r, e)
+record-zero (tailed k) p r e = (r .0, e .0)
+record-zero (listed k) p rs (r₀, e₀, n, e) = (r₀, e₀)
+
 -- what a writer wrote are the record's bytes, and no check refused
 pub wrote : (g : Guard) (code : ℕ) (bs out : List ℕ) (n : ℕ) → putChecked g code bs out .0 ≡ Wrote n
     → (take n (putChecked g code bs out .1) ≡ bs) × (g ≡ Pass)
@@ -110,7 +119,7 @@ module _ (f : Form) (law : Law f) where
       let (pass, is) = reads f law p r .0 e in
       (sym (ap (bytes f) is) ∙ law .kept p b pass, sym (ap (refuse f) is) ∙ law .writable p b pass)
 
-  given : (r : Record f) (b : List ℕ) → WritesAs f r b → (b ≡ bytes f r) × (refuse f r ≡ Pass)
+  pub given : (r : Record f) (b : List ℕ) → WritesAs f r b → (b ≡ bytes f r) × (refuse f r ≡ Pass)
   given r b (out, n, w, e) =
       let (t, g) = wrote (refuse f r) (code f) (bytes f r) out n w in
       (e ∙ t, g)
@@ -127,6 +136,19 @@ module _ (f : Form) (law : Law f) where
         let (es, ws) = given s c gs in
         ((λ e. injective r s wr ws (sym er ∙ e ∙ es)), (λ e. er ∙ ap (bytes f) e ∙ sym es))),
   )
+
+  pub accepts : (p : List ℕ) → check f p ≡ Pass → Accepted f p
+  accepts p h = record-zero f p (whole f p) (reads f law p (whole f p) .1 (h, refl))
+
+  -- what is written passes, and reads as the record
+  module _ (r : Record f) (b : List ℕ) (w : WritesAs f r b) where
+    pub written-passes : check f b ≡ Pass
+    written-passes = rw (given r b w .0) (law .readable r (given r b w .1))
+
+    pub written-reads : length (without (loss f) b) ≡ length b → ReadsAs f b r
+    written-reads u =
+        let (is, ok) = given r b w in
+        reads f law b r .1 (written-passes, rw is (law .reread r ok (rw is at u)))
 
   -- normalise is the reader's checks, and then the payload without what is lost
   pub normalise-is : (p out : List ℕ) → Bytes p → normalise f p out ≡ putChecked (check f p) (code f) (without (loss f) p) out

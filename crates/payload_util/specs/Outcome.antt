@@ -11,7 +11,7 @@ pub data Outcome (A : Type 0) : Type 0 where
   gives : A → Outcome A
   refuses : Refusal → Outcome A
 
--- the record where the checks pass
+-- the record if the checks pass
 abbrev pub outcome : {A : Type 0} → Guard → A → Outcome A
 outcome Pass a = gives a
 outcome (Refused e) a = refuses e
@@ -21,17 +21,17 @@ abbrev pub guardOf : {A : Type 0} → Outcome A → Guard
 guardOf (gives a) = Pass
 guardOf (refuses e) = Refused e
 
--- the value, or another where there is none
+-- the value, or another if there is none
 abbrev pub valueOr : {A : Type 0} → A → Outcome A → A
 valueOr d (gives a) = a
 valueOr d (refuses e) = d
 
--- a tail is empty where reading refuses
+-- a tail is empty if reading refuses
 abbrev pub tailWhere : Guard → List ℕ → List ℕ
 tailWhere Pass t = t
 tailWhere (Refused e) t = []
 
--- a code table: the answer for the first code of the list whose byte is b, or else the other answer
+-- a code table: the answer for the first code of the list whose byte is b, or the other answer if there is none
 abbrev pub named : {C R : Type 0} → (C → ℕ) → (C → R) → R → List C → ℕ → R
 named byteOf found other [] b = other
 named byteOf found other (c ∷ cs) b = cond (eqb b (byteOf c)) (found c) (named byteOf found other cs b)

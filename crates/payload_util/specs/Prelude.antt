@@ -1,4 +1,4 @@
--- The names that a kind's page and contracts use, passed on.
+-- The names that a kind's definitions and contracts use, exported again.
 pub use mathlib.Core.Path.{_≡_}
 pub use mathlib.Core.List.{List, [], _∷_, _++_}
 pub use mathlib.Core.Bool.{cond}

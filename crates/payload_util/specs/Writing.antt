@@ -13,7 +13,7 @@ use Rattle.payload_util.specs.declared.Written.the-variants.{Wrote, Refu
 abbrev pub Effect : Type 0
 Effect = Written × List ℕ
 
--- the bytes at the front of the buffer where all checks pass, and the buffer as it was where one refuses
+-- the bytes are at the front of the buffer if all checks pass, and the buffer is as it was if one refuses
 abbrev pub effect : Guard → List ℕ → List ℕ → Effect
 effect Pass bytes out = (Wrote (length bytes), bytes ++ drop (length bytes) out)
 effect (Refused e) bytes out = (NotWritten e, out)

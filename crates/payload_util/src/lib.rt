@@ -1,4 +1,4 @@
-// What every payload kind shares: the refusal, the guards of payload_util.rs, numbers of several bytes, and the end of every writer.
+// What every payload kind shares: the refusal, the guards of payload_util.rs, numbers of several bytes, and the last step of every writer.
 ghost use mathlib.Core.Path.{_≡_};
 ghost use mathlib.Core.Bool.{_&&_};
 ghost use mathlib.Core.List.{_++_};
@@ -13,7 +13,10 @@ ghost use Rattle.payload_util.specs.Guards.{exactLen, atLeast, positiveM
 ghost use Rattle.payload_util.specs.Loss.{upTo, kept, keep, onlyAt};
 ghost use Rattle.payload_util.specs.Writing.{putChecked, put};
 
-// A row of the refusal table: its number, the payload's code byte, and the two values that the row names, else 0.
+// The row for a byte that reading would fold.
+pub const FOLDED: u8 = 17;
+
+// A row of the refusal table: its number, the payload's code byte, and the two values that the row names, 0 if it names none.
 pub struct Refusal {
     pub number: u8,
     pub code: u8,
@@ -27,14 +30,14 @@ pub enum Guard {
     Refused(Refusal),
 }
 
-// What a writer or a normaliser answers: the bytes written, or a refusal.
+// What a writer or a normaliser answers: how many bytes it wrote, or a refusal.
 pub enum Written {
     Wrote(usize),
     Refused(Refusal),
 }
 
 impl Guard {
-    // The refusal of a guard that refused; of a pass, zeros, which are no row.
+    // The refusal of a guard that refused. A pass gives zeros, which are no row.
     pub fn refusal(self) -> Refusal
         ensures { λ r. ⌜ r ≡ refusalOf self ⌝ }
     {
@@ -50,7 +53,7 @@ impl Guard {
     }
 }
 
-// A row as a guard: passes where the test holds.
+// A row as a guard: passes if the test holds.
 pub fn require(holds: bool, number: u8, code: u8, first: usize, second: usize) -> Guard
     ensures { λ r. ⌜ r ≡ require holds (row number code first second) ⌝ }
 {
@@ -79,7 +82,7 @@ pub fn require_at_least(payload: &[u8], min: usize, code: u8) -> Guard
     require(min <= payload.len(), 4, code, min, payload.len())
 }
 
-// Whether n is a whole number of blocks, and at least so many; a block of 0 makes none.
+// Whether n bytes are whole blocks, and at least `least` bytes; false if a block is 0.
 fn in_blocks(least: usize, block: usize, n: usize) -> bool
     ensures { λ r. ⌜ r ≡ (ltb 0 block && leb least n && eqb (n % block) 0) ⌝ }
 {
@@ -92,7 +95,7 @@ fn in_blocks(least: usize, block: usize, n: usize) -> bool
     n % block == 0
 }
 
-// Row 5, of an empty payload too.
+// Row 5, also for an empty payload.
 pub fn require_positive_multiple_of(payload: &[u8], block: usize, code: u8) -> Guard
     ensures { λ r. ⌜ r ≡ positiveMultipleOf block code (now (payload .entry)) ⌝ }
 {
@@ -109,7 +112,7 @@ pub fn require_multiple_of(payload: &[u8], block: usize, code: u8) -> Guard
 }
 
 // Row 6: the payload has as many bytes as its fields ask for.
-pub fn require_declared_len(payload: &[u8], asked: usize, code: u8) -> Guard
+fn require_declared_len(payload: &[u8], asked: usize, code: u8) -> Guard
     ensures { λ r. ⌜ r ≡ declaredLen asked code (now (payload .entry)) ⌝ }
 {
     require(payload.len() == asked, 6, code, 0, 0)
@@ -140,21 +143,21 @@ pub fn require_tail_len(tail: &[u8], asked: usize, code: u8) -> Guard
     require(tail.len() == asked, 13, code, 0, 0)
 }
 
-// Row 15: the buffer holds what is to be written.
+// Row 15: the buffer has room for what is to be written.
 pub fn require_room(needed: usize, code: u8, given: usize) -> Guard
     ensures { λ r. ⌜ r ≡ room code needed given ⌝ }
 {
     require(needed <= given, 15, code, needed, given)
 }
 
-// Row 16: a list has a record of this index.
+// Row 16: a list has a record at this index.
 pub fn require_present(index: usize, count: usize, code: u8) -> Guard
     ensures { λ r. ⌜ r ≡ present code index count ⌝ }
 {
     require(index < count, 16, code, index, count)
 }
 
-// A row where the byte at an offset is above the highest.
+// The row with this number if the byte at the offset is above the highest.
 pub fn require_limit(payload: &[u8], offset: usize, highest: u8, number: u8, code: u8) -> Guard
     ensures { λ r. ⌜ r ≡ require (leb (byteAt (now (payload .entry)) offset) highest) (row number code offset (byteAt (now (payload .entry)) offset)) ⌝ }
 {
@@ -162,7 +165,7 @@ pub fn require_limit(payload: &[u8], offset: usize, highest: u8, number: u8, cod
     require(b <= highest, number, code, offset, b as usize)
 }
 
-// A byte up to the highest, and else 0.
+// The byte if it is not above the highest, else 0.
 pub fn folded(b: u8, highest: u8) -> u8
     ensures { λ r. ⌜ r ≡ kept (upTo highest) b ⌝ }
 {
@@ -172,7 +175,7 @@ pub fn folded(b: u8, highest: u8) -> u8
     0
 }
 
-// Folds the byte at an offset, and no other; past the end there is none.
+// Folds the byte at an offset, and no other; an offset past the end changes nothing.
 pub fn fold_at(out: &mut [u8], offset: usize, highest: u8)
     ensures { λ _. ⌜ now (out .exit) ≡ keep (onlyAt offset highest) (now (out .entry)) ⌝ }
 {
@@ -181,7 +184,7 @@ pub fn fold_at(out: &mut [u8], offset: usize, highest: u8)
     }
 }
 
-// The bytes from an offset on; none where the payload ends before.
+// The bytes from an offset on; none if the payload ends before it.
 pub fn tail_from(payload: &[u8], offset: usize) -> &[u8]
     ensures { λ r. ⌜ now r ≡ drop offset (now (payload .entry)) ⌝ }
 {
@@ -192,7 +195,7 @@ pub fn tail_from(payload: &[u8], offset: usize) -> &[u8]
     }
 }
 
-// The tail of a payload that passed its checks; of any other nothing.
+// The tail of a payload that passed its checks; empty for any other payload.
 pub fn tail_where(checked: Guard, payload: &[u8], offset: usize) -> &[u8]
     ensures { λ r. ⌜ now r ≡ tailWhere checked (drop offset (now (payload .entry))) ⌝ }
 {
@@ -202,7 +205,7 @@ pub fn tail_where(checked: Guard, payload: &[u8], offset: usize) -> &[u8]
     tail_from(payload, offset)
 }
 
-// The byte at an offset, and the numbers of two and of four bytes there, low byte first; a byte past the end is 0.
+// The byte at an offset, and the numbers of two and of four bytes there, low byte first; a byte past the end counts as 0.
 pub fn byte_at(payload: &[u8], offset: usize) -> u8
     ensures { λ r. ⌜ r ≡ byteAt (now (payload .entry)) offset ⌝ }
 {
@@ -227,7 +230,7 @@ pub fn u32_at(payload: &[u8], offset: usize) -> u32
     (u16_at(part, 0) as u32) + 65536 * (u16_at(part, 2) as u32)
 }
 
-// The two bytes of a number, and the four of a longer one.
+// The two bytes of a u16, and the four bytes of a u32.
 pub fn low_byte(n: u16) -> u8
     ensures { λ r. ⌜ r ≡ n % 256 ⌝ }
 {
@@ -268,8 +271,8 @@ fn copy_bytes(src: &[u8], out: &mut [u8], offset: usize)
     }
 }
 
-// The same through a block. It overlaps neither src nor out, and so the compiler leaves it out and makes one move of both loops: by registers
-// where it knows the length, and else by memmove.
+// Copies all of src through a block. The block overlaps neither src nor out, so the compiler removes it and makes one move of both loops:
+// in registers if it knows the length, otherwise by memmove.
 fn copy_block(src: &[u8], out: &mut [u8], offset: usize)
     requires { ⌜ (length (now src) ≤ 2048) × (offset + length (now src) ≤ length (now out)) ⌝ }
     ensures { λ _. ⌜ now (out .exit) ≡ paste (now (out .entry)) offset (now (src .entry)) (length (now (src .entry))) ⌝ }
@@ -279,7 +282,7 @@ fn copy_block(src: &[u8], out: &mut [u8], offset: usize)
     copy_bytes(&block[..src.len()], out, offset);
 }
 
-// The same of k to 2 k bytes: the first k, and then the last k, which meet or overlap.
+// Copies a src of k to 2 k bytes: its first k, and then its last k, which meet or overlap.
 fn copy_ends(src: &[u8], out: &mut [u8], offset: usize, k: usize)
     requires { ⌜ (k ≤ length (now src)) × (length (now src) ≤ 2 * k) × (k ≤ 32) × (offset + length (now src) ≤ length (now out)) ⌝ }
     ensures { λ _. ⌜ now (out .exit) ≡ paste (now (out .entry)) offset (now (src .entry)) (length (now (src .entry))) ⌝ }
@@ -289,7 +292,7 @@ fn copy_ends(src: &[u8], out: &mut [u8], offset: usize, k: usize)
     copy_block(&src[last..], out, offset + last);
 }
 
-// Where the piece that starts at done ends, of n bytes.
+// Where the piece that starts at done ends, if n bytes are copied in all.
 fn piece_end(done: usize, n: usize) -> usize
     requires { ⌜ done < n ⌝ }
     ensures { λ r. ⌜ (done < r) × (r ≤ n) × (r ≤ done + 2048) ⌝ }
@@ -297,7 +300,7 @@ fn piece_end(done: usize, n: usize) -> usize
     if n - done <= BLOCK { n } else { done + BLOCK }
 }
 
-// The same piece by piece.
+// Copies all of src piece by piece.
 fn copy_pieces(src: &[u8], out: &mut [u8], offset: usize)
     requires { ⌜ offset + length (now src) ≤ length (now out) ⌝ }
     ensures { λ _. ⌜ now (out .exit) ≡ paste (now (out .entry)) offset (now (src .entry)) (length (now (src .entry))) ⌝ }
@@ -310,7 +313,7 @@ fn copy_pieces(src: &[u8], out: &mut [u8], offset: usize)
     }
 }
 
-// The same, and quick for a few bytes: the compiler knows each k.
+// Copies all of src, and is quick for a few bytes: the compiler knows each k.
 fn copy_at(src: &[u8], out: &mut [u8], offset: usize)
     requires { ⌜ offset + length (now src) ≤ length (now out) ⌝ }
     ensures { λ _. ⌜ now (out .exit) ≡ paste (now (out .entry)) offset (now (src .entry)) (length (now (src .entry))) ⌝ }
@@ -347,7 +350,7 @@ pub fn put_bytes(head: &[u8], tail: &[u8], code: u8, out: &mut [u8]) -> Written
     Written::Wrote(needed)
 }
 
-// The same after the checks of a kind.
+// Writes as put_bytes does if the checks of the kind passed; otherwise refuses as they did.
 pub fn put_checked(checked: Guard, head: &[u8], tail: &[u8], code: u8, out: &mut [u8]) -> Written
     ensures { λ r. ⌜ (r, now (out .exit)) ≡ putChecked checked code (now (head .entry) ++ now (tail .entry)) (now (out .entry)) ⌝ }
 {
@@ -357,7 +360,7 @@ pub fn put_checked(checked: Guard, head: &[u8], tail: &[u8], code: u8, out: &mut
     put_bytes(head, tail, code, out)
 }
 
-// The same of a payload as it came, in one copy.
+// Writes a payload as it came, in one copy, if the checks of the kind passed.
 pub fn put_payload(checked: Guard, payload: &[u8], code: u8, out: &mut [u8]) -> Written
     ensures { λ r. ⌜ (r, now (out .exit)) ≡ putChecked checked code (now (payload .entry)) (now (out .entry)) ⌝ }
 {

@@ -1,4 +1,4 @@
--- osdp_FMT (0x51), §7.11: reader, direction, count, and that many characters.
+-- osdp_FMT (0x51), R4.9, §7.11: reader, direction, count, and that many characters.
 use Rattle.payload_util.specs.Prelude.{_∷_, drop, byteAt, headAndTail, tailLen, nothing, Outcome, gives, refuses, Form, tailed}
 use Rattle.raw_card.specs.declared.{Fmt.Fmt, FmtRead.FmtRead, FmtRead.the-variants.Read, FmtRead.the-variants.Refused}
 
@@ -6,7 +6,7 @@ abbrev pub fmtOutcome : FmtRead → Outcome Fmt
 fmtOutcome (Read f) = gives f
 fmtOutcome (Refused e) = refuses e
 
--- rows 4 and 6 of a payload, row 13 of a record
+-- a payload is refused by rows 4 and 6, a record by row 13
 abbrev pub fmt : Form
 fmt = tailed {A = Fmt} (record {
   code = 0x51;

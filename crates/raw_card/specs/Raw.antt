@@ -1,4 +1,4 @@
--- osdp_RAW (0x50), §7.10: reader, format, bit count u16, and the bits, eight to a byte. The last byte's bits past the count are kept.
+-- osdp_RAW (0x50), R4.8, §7.10: reader, format, bit count u16, and the bits, eight to a byte. The last byte's bits past the count are kept.
 use Rattle.payload_util.specs.Prelude.{List, [], _∷_, _++_, ℕ, _+_, _*_, _/_, _%_, min, length, take, drop, byteAt, u16At, u16Bytes, flat}
 use Rattle.payload_util.specs.Prelude.{headAndTail, tailLen, nothing, Outcome, gives, refuses, Form, tailed, code, Effect, put}
 use Rattle.raw_card.specs.declared.{Raw.Raw, RawRead.RawRead, RawRead.the-variants.Read, RawRead.the-variants.Refused}
@@ -11,7 +11,7 @@ rawOutcome (Refused e) = refuses e
 abbrev pub bytesFor : ℕ → ℕ
 bytesFor bits = (bits + 7) / 8
 
--- rows 4 and 6 of a payload, row 13 of a record
+-- a payload is refused by rows 4 and 6, a record by row 13
 abbrev pub raw : Form
 raw = tailed {A = Raw} (record {
   code = 0x50;
@@ -30,7 +30,7 @@ byteBits b = b / 128 % 2 ∷ b / 64 % 2 ∷ b / 32 % 2 ∷ b / 16 % 2 ∷ b / 8 
 unfoldable pub allBits : List ℕ → List ℕ
 allBits bits = flat byteBits bits
 
--- as many as the count says, and no more than there are
+-- as many bits as the count says, but no more than there are
 abbrev pub bitsOf : ℕ → List ℕ → List ℕ
 bitsOf count bits = take (min count (8 * length bits)) (allBits bits)
 

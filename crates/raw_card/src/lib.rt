@@ -28,7 +28,7 @@ pub enum RawRead {
     Refused(Refusal),
 }
 
-// The bytes that so many bits take.
+// How many bytes so many bits take.
 fn bytes_for(bit_count: u16) -> u16
     ensures { λ r. ⌜ r ≡ bytesFor «bit_count» ⌝ }
 {
@@ -68,7 +68,7 @@ impl Raw {
         }
     }
 
-    // The bytes that hold the bits, those past the count as they came; nothing where reading refuses.
+    // The bytes that hold the bits; bits past the count are as they came. Empty if reading refuses.
     pub fn bits(p: &[u8]) -> &[u8]
         ensures { λ r. ⌜ now r ≡ tail raw (now (p .entry)) ⌝ }
     {
@@ -100,7 +100,7 @@ impl Raw {
         put_payload(Self::check(p), p, Self::CODE, out)
     }
 
-    // Writes a byte, 0 or 1, for each bit up to the count, highest bit first. Bytes too few for the count give the bits that they have.
+    // Writes a byte, 0 or 1, for each bit up to the count, highest bit first. If the bytes have fewer bits than the count, writes those.
     pub fn iter_bits(self, bits: &[u8], out: &mut [u8]) -> Written
         ensures { λ r. ⌜ (r, now (out .exit)) ≡ writeBits self (now (bits .entry)) (now (out .entry)) ⌝ }
     {
@@ -125,7 +125,7 @@ fn bits_given(bit_count: u16, bytes: usize) -> usize
     }
 }
 
-// Byte by byte and, inside, bit by bit, until n bits are written.
+// Writes bits, byte by byte and in each byte bit by bit, until n are written.
 fn fill_bits(n: usize, bits: &[u8], out: &mut [u8])
     requires { ⌜ (n ≤ 8 * length (now bits)) × (n ≤ length (now out)) ⌝ }
     ensures { λ _. ⌜ now (out .exit) ≡ take n (allBits (now (bits .entry))) ++ drop n (now (out .entry)) ⌝ }
@@ -193,7 +193,7 @@ impl Fmt {
         }
     }
 
-    // The characters; nothing where reading refuses.
+    // The characters; empty if reading refuses.
     pub fn chars(p: &[u8]) -> &[u8]
         ensures { λ r. ⌜ now r ≡ tail fmt (now (p .entry)) ⌝ }
     {

@@ -1,4 +1,4 @@
--- The laws of TEXT's commands, and TEXT's part of demand 3.
+-- The laws of TEXT's commands, and TEXT's law.
 -- Assumes nothing.
 use mathlib.Core.Path.{_≡_, refl}
 use mathlib.Core.List.{List}
@@ -7,16 +7,17 @@ use native.Mathlib.Omega.{arith}
 use lib.ListN.{length, drop}
 use Rattle.payload_util.specs.Refusals.{row}
 use Rattle.payload_util.specs.Outcome.{gives, guardOf, valueOr}
-use Rattle.payload_util.specs.Guards.{headAndTail}
+use Rattle.payload_util.specs.Guards.{headAndTail, atMost}
 use Rattle.payload_util.specs.Bytes.{byteAt}
-use Rattle.payload_util.specs.Form.{check}
+use Rattle.payload_util.specs.Form.{check, bytes}
 use Rattle.payload_util.specs.declared.Guard.the-variants.{Pass}
-use Rattle.payload_util.proofs.Guards.{also-left, also-right, head-and-tail-pass, pass-most}
+use Rattle.payload_util.proofs.Guards.{also-left, also-right, head-and-tail-pass, pass-head-and-tail, pass-most}
 use Rattle.payload_util.proofs.Table.{exact, exact-value}
 use Rattle.payload_util.proofs.Parts.{by-head}
 use Rattle.payload_util.proofs.Scheme.{Law}
 use Rattle.payload_util.proofs.Forms.{tailed-law}
 use Rattle.text.specs.Text.{textCode, textCommandByte, textCommands, readTextCommand, printable, textShape, textKind}
+use Rattle.text.specs.declared.Text.{Text}
 use Rattle.text.specs.declared.TextCommand.{TextCommand}
 use Rattle.text.specs.declared.TextCommand.the-variants.{PermanentNoWrap, PermanentWrap, TemporaryNoWrap, TemporaryWrap}
 
@@ -51,6 +52,10 @@ text-passes : (p : List ℕ) → check textKind p ≡ Pass
 unfolding textShape
 text-passes p g = search (also-left, also-right)
 
+text-written : (t : Text) (s : List ℕ) → printable s ≡ Pass → check textKind (bytes textKind (t, s)) ≡ Pass
+unfolding textShape
+text-written t s shown = simp (pass-head-and-tail 6 textCode (bytes textKind (t, s)) (length s) (omega arith), shown, text-command-back)
+
 pub text-law : Law textKind
 text-law =
     tailed-law 6
@@ -62,4 +67,5 @@ text-law =
     let (whole, shown, command) = text-passes p g in
     let short : length (drop 6 p) ≤ 255 = omega (arith, head-and-tail-pass 6 textCode p (byteAt p 5) whole .1, b 5) in
     simp (shown, pass-most 255 textCode (drop 6 p) short))
-    (λ t s w. simp text-command-back) (λ t s. refl) (λ p g. g)
+    (λ t s w. simp text-command-back) (λ t s. refl) (λ p u. refl) (λ p g. g)
+    (λ t s w. text-written t s (also-left (printable s) (atMost 255 textCode s) w))

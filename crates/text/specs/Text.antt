@@ -1,4 +1,4 @@
--- osdp_TEXT (0x6B), §6.12, Tables 21 and 22: reader, command, time, row, column, length, and so many bytes of text.
+-- osdp_TEXT (0x6B), R4.3, §6.12, Tables 21 and 22: reader, command, time, row, column, length, and so many bytes of text.
 use mathlib.Core.Bool.{_&&_}
 use Rattle.payload_util.specs.Prelude.{List, [], _∷_, ℕ, leb, length, drop, byteAt, row, require, _also_, headAndTail, atMost, inOrder}
 use Rattle.payload_util.specs.Prelude.{named, Outcome, gives, refuses, guardOf, valueOr, nothing, Form, tailed}
@@ -11,7 +11,7 @@ use Rattle.text.specs.declared.TextCommandRead.the-variants.{Read as Com
 abbrev pub textCode : ℕ
 textCode = 0x6B
 
--- Table 21
+-- Table 21, R3.8
 abbrev pub textCommandByte : TextCommand → ℕ
 textCommandByte PermanentNoWrap = 0x01
 textCommandByte PermanentWrap = 0x02
@@ -25,7 +25,7 @@ abbrev pub textCommandOutcome : TextCommandRead → Outcome TextCommand
 textCommandOutcome (CommandRead c) = gives c
 textCommandOutcome (CommandRefused e) = refuses e
 
--- the command whose byte it is; row 9 of any other byte
+-- the command that has this byte; row 9 for any other byte
 unfoldable pub readTextCommand : ℕ → Outcome TextCommand
 readTextCommand b = named textCommandByte gives (refuses (row 9 textCode 0 0)) textCommands b
 
@@ -37,11 +37,11 @@ printableAt s i = require (leb 0x20 (byteAt s i) && leb (byteAt s i) 0x7E) (row 
 unfoldable pub printable : List ℕ → Guard
 printable s = inOrder (printableAt s) 0 (length s)
 
--- read order: guard, length, printable, command
+-- a reader checks the least length, the length field, the text and then the command
 unfoldable pub textShape : List ℕ → Guard
 textShape p = headAndTail 6 (byteAt p 5) textCode p also printable (drop 6 p)
 
--- the bytes at their offsets, beside a command
+-- the bytes at their offsets, with this command
 abbrev pub textWith : TextCommand → List ℕ → Text
 textWith command p =
     record { reader = byteAt p 0; command = command; «temp_time_s» = byteAt p 2; row = byteAt p 3; column = byteAt p 4 }
@@ -50,7 +50,7 @@ abbrev pub textOutcome : TextRead → Outcome Text
 textOutcome (Read t) = gives t
 textOutcome (Refused e) = refuses e
 
--- write order: printable, then more than 255
+-- a writer checks that the text is printable, and then that it has at most 255 bytes
 abbrev pub textKind : Form
 textKind = tailed {A = Text} (record {
   code = textCode;

@@ -27,7 +27,7 @@ pub enum TextCommandRead {
 }
 
 impl TextCommand {
-    // Row 9 of a byte that is no command's.
+    // Row 9 if no command has this byte.
     pub fn from_byte(b: u8) -> TextCommandRead
         ensures { λ r. ⌜ textCommandOutcome r ≡ readTextCommand b ⌝ }
     {
@@ -75,11 +75,11 @@ pub enum TextRead {
 impl Text {
     pub const CODE: u8 = 0x6B;
 
-    // The length field included.
+    // Including the length field.
     pub const WIRE_LEN: usize = 6;
 
-    // Row 8 of a text with a byte outside 0x20 to 0x7E. The loop goes on after such a byte, so that the compiler takes many bytes a turn.
-    pub fn validate_ascii(s: &[u8]) -> Guard
+    // Row 8 if a byte of the text is outside 0x20 to 0x7E. The loop goes on after such a byte, so the compiler can take many at a time.
+    fn validate_ascii(s: &[u8]) -> Guard
         ensures { λ r. ⌜ r ≡ printable (now (s .entry)) ⌝ }
     {
         let mut shown = true;
@@ -145,7 +145,7 @@ impl Text {
         }
     }
 
-    // The text; nothing where reading refuses.
+    // The text; empty if reading refuses.
     pub fn text(p: &[u8]) -> &[u8]
         ensures { λ r. ⌜ now r ≡ tail textKind (now (p .entry)) ⌝ }
     {

@@ -1,4 +1,4 @@
-// One case, on the library.
+// Runs one case on the library.
 use vectors_case::Case;
 use vectors_read::guard;
 use vectors_read::list;
@@ -14,7 +14,7 @@ pub const LAST: u8 = 14;
 // How many times a case is tried.
 const TRIES: usize = 4;
 
-// Tries a case. Beside it stand its input and the wanted output, and a buffer that is longer than both together.
+// Tries a case with its input, the wanted output, and a buffer that is longer than both together.
 pub fn run(c: Case, input: &[u8], want: &[u8], out: &mut [u8]) -> bool {
     let longest = out.len();
     let mut k: usize = 0;
@@ -27,8 +27,8 @@ pub fn run(c: Case, input: &[u8], want: &[u8], out: &mut [u8]) -> bool {
     true
 }
 
-// Try k: a writer of n bytes is given the whole buffer, n bytes of it, one byte less, and none. The two bytes that the buffer is
-// filled up with differ, so that a byte that is not written shows by one of them.
+// Try k: a writer of n bytes is given the whole buffer, n bytes of it, one byte less, or none. The buffer is filled with one of two
+// bytes, so that a byte that is not written differs from the wanted one in some try.
 fn try_of(mut c: Case, k: usize, n: usize, longest: usize) -> Case {
     c.fill = 0xA5;
     match k {

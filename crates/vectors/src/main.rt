@@ -1,4 +1,4 @@
-// Replays cases with their answers, from standard input, on the library, and says how many differ. README.md has the format.
+// Reads cases with their answers from standard input, replays them on the library, and says how many differ. README.md has the format.
 mod case;
 mod stream;
 mod tally;
@@ -11,10 +11,10 @@ ghost use Prim.Native.Nat.{_≤_, _-_};
 // The class of the record that ends a stream, whose argument is the number of cases before it.
 const END: u8 = 255;
 
-// How many bytes a case's buffer has more than its input and its output.
+// How many more bytes a case's buffer has than its input and its output together.
 const MORE: usize = 256;
 
-// Runs a case whose input and output stand in the space.
+// Runs a case whose input and output are in the space.
 fn whole(t: Tally, c: Case, space: &[u8], out: &mut [u8]) -> Tally {
     let at = stream::BLOCKS;
     let mid = c.mid;
@@ -64,7 +64,7 @@ fn left(turns: u64, is_done: bool) -> u64
     if is_done { 0 } else { turns - 1 }
 }
 
-// All turns: there are more than any stream asks for.
+// Takes turns until the stream is done. There are more turns than any stream needs.
 fn all(space: &mut [u8], out: &mut [u8]) -> Tally {
     let mut t = Tally::new();
     let mut turns = u64::MAX;

@@ -7,7 +7,7 @@ ghost use lib.ListN.{length};
 
 pub const BLOCKS: usize = 262144;
 
-// What stands between two indices of the space: a case or the record that ends a stream; the beginning of one, or nothing; or what
+// What is between two indices of the space: a case or the record that ends a stream; only the beginning of one, or nothing; or one that
 // does not fit into the space.
 pub enum Taken {
     Case(Case),
@@ -24,7 +24,7 @@ struct Number {
     next: usize,
 }
 
-// One byte below 255, or 255 and then eight bytes, low byte first. Where the stream ends before, no index is after it.
+// One byte below 255, or 255 and then eight bytes, low byte first. If the stream ends before the number does, next is PAST.
 fn read_number(s: &[u8], at: usize) -> Number {
     if s.len() <= at {
         return Number {
@@ -51,7 +51,7 @@ fn read_number(s: &[u8], at: usize) -> Number {
     }
 }
 
-// The sum of two indices or lengths, and PAST where there is none.
+// The sum of two indices or lengths, or PAST if it is too large or one of them is PAST.
 fn sum(a: usize, b: usize) -> usize {
     if a < PAST - b { a + b } else { PAST }
 }
@@ -104,7 +104,7 @@ fn read_head(s: &[u8]) -> Head
     }
 }
 
-// Takes the case that stands between two indices of the space, and puts its input and its output after BLOCKS.
+// Takes the case between two indices of the space, and puts its input and its output after BLOCKS.
 pub fn take(space: &mut [u8], from: usize, to: usize) -> Taken {
     if to < from || space.len() < to {
         return Taken::Unfit;
@@ -135,12 +135,12 @@ fn unpack(space: &mut [u8], at: usize, h: Head) -> Taken {
     Taken::Case(c)
 }
 
-// Puts the bytes stored at an index between two others, and fills up. False where they do not fit.
+// Puts the bytes that are stored at one index at another, and fills up to a third. False if they do not fit.
 fn block(space: &mut [u8], at: usize, stored: usize, fill: u8, from: usize, to: usize) -> bool {
     move_bytes(&mut *space, at, from, stored) && put(space, sum(from, stored), to, fill)
 }
 
-// Moves n bytes from one index to another, the first byte first.
+// Moves n bytes from one index to another, the first byte first. False if they do not fit.
 fn move_bytes(space: &mut [u8], from: usize, to: usize, n: usize) -> bool {
     if space.len() < n {
         return false;
@@ -161,7 +161,7 @@ fn move_bytes(space: &mut [u8], from: usize, to: usize, n: usize) -> bool {
     true
 }
 
-// Moves the unread bytes, which stand between two indices, to the front, reads once behind them, and answers how many are unread.
+// Moves the unread bytes, which are between two indices, to the front, reads once behind them, and returns how many are unread.
 pub fn refill(space: &mut [u8], from: usize, to: usize) -> usize {
     if to < from {
         return 0;

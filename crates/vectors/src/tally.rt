@@ -1,4 +1,4 @@
-// What the cases came to, and where the stream stands.
+// How many cases there were and how many differ, and the position in the stream.
 use std::num::wrapping_add_u64;
 use std::num::wrapping_add_usize;
 use vectors_case::Case;
@@ -9,7 +9,7 @@ const NAMED: u64 = 10;
 pub struct Tally {
     pub cases: u64,
     pub differ: u64,
-    // cases since the stream began or a record of its end stood in it
+    // cases since the stream began, or since the last record that ended a stream
     pub since: usize,
     // the unread bytes of the buffer: from one index up to another
     pub from: usize,
@@ -51,7 +51,7 @@ impl Tally {
         t
     }
 
-    // After a read: the unread bytes stand at the front of the buffer. Where none came, the stream is at its end.
+    // After a read: the unread bytes are at the front of the buffer. If none came, the stream is at its end.
     pub fn refilled(mut self, unread: usize) -> Tally {
         let is_end = self.from <= self.to && self.to - self.from == unread;
         self.from = 0;

@@ -1,4 +1,4 @@
--- An answer that is true exactly where a statement holds, and the wanted answer by its row.
+-- An answer that is true exactly when a statement holds, and the wanted answer by its row.
 -- Assumes nothing.
 use mathlib.Core.Path.{_≡_, refl, sym, ap, _∙_}
 use mathlib.Core.Logic.{_↔_}
@@ -65,7 +65,7 @@ module _ (c : Case) where
   pub none-refused : (e : Refusal) → c .row ≡ 0 → Refused e ≡ wanted c → ⊥
   none-refused e h q = refused-pass (q ∙ none-wanted h)
 
-  -- a wanted refusal comes before room, and where none is wanted room answers
+  -- a wanted refusal comes before room; if none is wanted, room answers
   pub some-first : (g : Guard) → (c .row ≡ 0 → ⊥) → (wanted c also g) ≡ wanted c
   some-first g h = simp (some-wanted h)
 

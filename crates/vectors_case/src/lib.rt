@@ -19,16 +19,16 @@ pub struct Case {
     pub class: u8,
     pub code: u8,
     pub argument: usize,
-    // the wanted answer: the row of its refusal with its two numbers, or 0
+    // the wanted answer: the row of the refusal and its two values, or row 0 for a pass
     pub row: u8,
     pub first: usize,
     pub second: usize,
-    // where its output begins and ends; its input ends where that begins
+    // where the output begins and ends; the input ends where the output begins
     pub mid: usize,
     pub end: usize,
     // how long it is in the stream
     pub size: usize,
-    // how it is tried: the room that a writer is given, and the byte that the whole buffer is filled up with before
+    // how it is tried: the room that a writer is given, and the byte that fills the whole buffer before
     pub room: usize,
     pub fill: u8,
 }
@@ -74,7 +74,7 @@ fn is_row(e: Refusal, number: u8, code: u8, first: usize, second: usize) -> bool
     true
 }
 
-// Puts b at every index from one up to another. False where the slice is too short.
+// Puts b at every index from one up to another. False if the slice is too short.
 pub fn put(into: &mut [u8], from: usize, to: usize, b: u8) -> bool
     ensures { λ r. ⌜ (r, now (into .exit)) ≡ putting from to b (now (into .entry)) ⌝ }
 {
@@ -89,7 +89,7 @@ pub fn put(into: &mut [u8], from: usize, to: usize, b: u8) -> bool
     true
 }
 
-// Whether the answer and every byte of a buffer are the wanted ones, after a writer was given its room alone.
+// Whether the answer and every byte of a buffer are the wanted ones, after a writer was given only its room.
 pub fn wrote(c: Case, written: Written, want: &[u8], out: &[u8]) -> bool
     ensures { λ r. ⌜ (r ≡ true) ↔ Tried c written (now (want .entry)) (now (out .entry)) ⌝ }
 {
@@ -126,7 +126,7 @@ fn in_room(c: Case, written: Written, want: &[u8], out: &[u8]) -> bool
     }
 }
 
-// Whether e has to be the refusal where the output has n bytes and the buffer has room for so many.
+// Whether e is the wanted refusal, if the output has n bytes and the buffer has given bytes.
 fn refuses(c: Case, e: Refusal, n: usize, given: usize) -> bool
     ensures { λ r. ⌜ (r ≡ true) ↔ (Refused e ≡ roomLast (wanted c) (room (c .code) n given)) ⌝ }
 {
@@ -139,7 +139,7 @@ fn refuses(c: Case, e: Refusal, n: usize, given: usize) -> bool
     is_row(e, 15, c.code, n, given)
 }
 
-// Whether a buffer has the wanted bytes from an index on, and else what it was filled up with.
+// Whether a buffer has the wanted bytes from an index on, and the fill byte everywhere else.
 pub fn holds(out: &[u8], at: usize, want: &[u8], fill: u8) -> bool
     ensures { λ r. ⌜ (r ≡ true) ↔ (now (out .entry) ≡ around at (now (want .entry)) (length (now (out .entry))) fill) ⌝ }
 {
@@ -174,7 +174,7 @@ pub fn filled(s: &[u8], from: usize, b: u8) -> bool
     true
 }
 
-// Fields of records made by hand. The library's own numbers are not used: they are what is compared.
+// Fields of records made by hand. The library's own functions for numbers are not used, since they are what is tested.
 // The byte at an index, or 0.
 pub fn byte(s: &[u8], at: usize) -> u8
     ensures { λ r. ⌜ r ≡ byteAt (now (s .entry)) at ⌝ }
@@ -182,7 +182,7 @@ pub fn byte(s: &[u8], at: usize) -> u8
     if at < s.len() { s[at] } else { 0 }
 }
 
-// The number of the two bytes from an offset on, and of the four, low byte first.
+// The numbers of two and of four bytes from an offset on, low byte first.
 pub fn u16_at(s: &[u8], offset: usize) -> u16
     ensures { λ r. ⌜ r ≡ u16At (now (s .entry)) offset ⌝ }
 {

@@ -12,7 +12,7 @@ pub mod walker;
 use payload_util::Refusal;
 use vectors_case::Case;
 
-// Whether a record's fixed fields and its tail, which is written from an index on, are the wanted ones.
+// Whether the wanted bytes begin with a record's fixed fields, and from an index on are its tail.
 fn record(c: Case, fixed: &[u8], tail: &[u8], at: usize, want: &[u8]) -> bool {
     let n = fixed.len();
     if want.len() < n {
@@ -24,7 +24,7 @@ fn record(c: Case, fixed: &[u8], tail: &[u8], at: usize, want: &[u8]) -> bool {
     c.row == 0 && check::same(fixed, &want[0..n]) && check::same(tail, &want[at..want.len()])
 }
 
-// Whether e has to be the refusal, and the tail beside it is empty.
+// Whether e is the wanted refusal and the tail is empty.
 fn refusal(c: Case, e: Refusal, tail: &[u8]) -> bool {
     c.refuses(e) && tail.len() == 0
 }

@@ -29,7 +29,7 @@ fn asking(mut c: Case, k: usize) -> Case {
     c
 }
 
-// Asks for record n of n: row 16, where reading accepts.
+// Asks for record n of n: row 16 if reading accepts.
 fn past(mut c: Case, n: usize) -> Case {
     c.argument = n;
     if c.row == 0 {
@@ -59,7 +59,7 @@ pub(crate) fn led(c: Case, read: LedRead, want: &[u8]) -> bool {
     }
 }
 
-// By hand: the record's own to_bytes is what its writer is made of.
+// By hand, since the record's writer is made of its to_bytes.
 fn led_bytes(r: LedRecord) -> [u8; 14] {
     let temporary = r.temporary;
     let permanent = r.permanent;

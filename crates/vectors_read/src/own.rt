@@ -1,4 +1,4 @@
-// The kinds' own calls, which know no longest payload.
+// The kinds' own calls, which have no limit on the payload's length.
 use bio::BioMatchR;
 use bio::BioReadR;
 use biometric::BioMatch;
@@ -32,14 +32,6 @@ pub(crate) fn check(kind: Kind, p: &[u8]) -> Guard {
         Kind::Nak => Nak::check(p),
         Kind::Xrd => Xrd::check(p),
     }
-}
-
-pub(crate) fn strict(kind: Kind, p: &[u8]) -> Guard {
-    let checked = check(kind, p);
-    let Guard::Pass = checked else {
-        return checked;
-    };
-    kind.within_limits(p)
 }
 
 pub(crate) fn normalise(kind: Kind, p: &[u8], out: &mut [u8]) -> Written {

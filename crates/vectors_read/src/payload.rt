@@ -25,7 +25,7 @@ const BY_CODE: usize = 1;
 
 const OF_KIND: usize = 2;
 
-// By what a payload is asked for: its code byte, or its kind.
+// How a payload is handed to the library: by its code byte, or by its kind.
 enum Call {
     ByCode(Side, u8),
     OfKind(Kind),
@@ -36,13 +36,6 @@ impl Call {
         match self {
             Call::ByCode(side, code) => osdp::check(side, code, p),
             Call::OfKind(kind) => own::check(kind, p),
-        }
-    }
-
-    fn strict(self, p: &[u8]) -> Guard {
-        match self {
-            Call::ByCode(side, code) => osdp::strict(side, code, p),
-            Call::OfKind(kind) => own::strict(kind, p),
         }
     }
 
@@ -61,8 +54,11 @@ pub fn run(c: Case, p: &[u8], want: &[u8], out: &mut [u8]) -> bool
 }
 
 fn by_code(c: Case, p: &[u8], want: &[u8], out: &mut [u8]) -> bool {
+    if c.argument == OF_KIND {
+        return true;
+    }
     let call = Call::ByCode(side_of(c), c.code);
-    c.argument == OF_KIND || answers(c, call, p, want, out)
+    c.guards(osdp::strict(side_of(c), c.code, p)) && answers(reading(c), call, p, want, out)
 }
 
 fn of_kind(c: Case, p: &[u8], want: &[u8], out: &mut [u8]) -> bool {
@@ -71,7 +67,8 @@ fn of_kind(c: Case, p: &[u8], want: &[u8], out: &mut [u8]) -> bool {
     }
     match osdp::kind_of(side_of(c), c.code) {
         Lookup::Carried(kind) => {
-            reads(reading(c), kind, p, want) && answers(c, Call::OfKind(kind), p, want, out)
+            let read = reading(c);
+            reads(read, kind, p, want) && answers(read, Call::OfKind(kind), p, want, out)
         }
         _ => false,
     }
@@ -104,7 +101,7 @@ fn reads(c: Case, kind: Kind, p: &[u8], want: &[u8]) -> bool {
     }
 }
 
-// What reading has to answer: row 17 is the strict check's alone.
+// What reading has to answer: only the strict check gives row 17.
 fn reading(mut c: Case) -> Case {
     if c.row == 17 {
         c.row = 0;
@@ -113,8 +110,7 @@ fn reading(mut c: Case) -> Case {
 }
 
 fn answers(c: Case, call: Call, p: &[u8], want: &[u8], out: &mut [u8]) -> bool {
-    let read = reading(c);
-    c.guards(call.strict(p)) && read.guards(call.check(p)) && normalises(read, call, p, want, out)
+    c.guards(call.check(p)) && normalises(c, call, p, want, out)
 }
 
 fn normalises(c: Case, call: Call, p: &[u8], want: &[u8], out: &mut [u8]) -> bool {

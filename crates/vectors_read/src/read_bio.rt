@@ -10,7 +10,7 @@ use biometric::BioRead;
 use biometric::BioReadRead;
 use vectors_case::Case;
 
-// A template stands after its length.
+// A template comes after its length.
 fn head(c: Case, h: BioHead, tail: &[u8], at: usize, want: &[u8]) -> bool {
     let bio_type = h.bio_type;
     let bio_format = h.bio_format;

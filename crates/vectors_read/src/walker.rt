@@ -9,7 +9,7 @@ use led_walker::step_at;
 use std::num::wrapping_add_usize;
 use vectors_case::Case;
 
-// A walker that is started: at place 0 of the whole payload, or refused and then of no bytes.
+// A walker that is started: it is at place 0 of the whole payload, or holds no bytes if starting is refused.
 pub fn start(c: Case, p: &[u8], want: &[u8]) -> bool {
     let start = started(p);
     let checked = start.checked;
@@ -20,7 +20,7 @@ pub fn start(c: Case, p: &[u8], want: &[u8]) -> bool {
         && (c.row != 0 || walks(c, p, 0, want))
 }
 
-// A walker that stands at a place.
+// A walker made at a place.
 pub fn run(c: Case, p: &[u8], want: &[u8]) -> bool {
     walks(c, p, c.argument, want)
 }

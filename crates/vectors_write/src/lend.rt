@@ -37,7 +37,7 @@ fn at_most_four(n: usize) -> usize
     if n < 4 { n } else { 4 }
 }
 
-// The first n records. The parameters are plain values, so callers need no walk by hand.
+// Writes the first n records. The parameters are plain values, so that callers need no proof by hand.
 fn lend_leds(list: [LedRecord; 4], n: usize, out: &mut [u8]) -> Written
     requires { ⌜ n ≤ 4 ⌝ }
     ensures { λ r. ⌜ (r, now (out .exit)) ≡ write leds (take n list) (now (out .entry)) ⌝ }

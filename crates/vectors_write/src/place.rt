@@ -30,7 +30,7 @@ fn encode_at(c: Case, f: &[u8], out: &mut [u8]) -> Written {
     }
 }
 
-// Every byte of the buffer is looked at, those behind the room too.
+// Every byte of the buffer is looked at, also those behind the room.
 fn wrote_at(c: Case, written: Written, want: &[u8], out: &[u8]) -> bool {
     match written {
         Written::Wrote(n) => {

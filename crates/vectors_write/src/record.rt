@@ -1,4 +1,4 @@
-// Records made by hand of the bytes of their fixed fields. A byte that no code has becomes the first code.
+// Records made by hand from the bytes of their fixed fields. A byte that no code has becomes the first code.
 use bio::BioMatchR;
 use bio::BioReadR;
 use biometric::BioFormat;

@@ -40,7 +40,7 @@ fn write(c: Case, input: &[u8], out: &mut [u8]) -> Written {
     }
 }
 
-// The fixed fields of the record stand before an index, its tail from there on.
+// The record's fixed fields are before an index, and its tail is from there on.
 fn of_kind(found: Lookup, at: usize, input: &[u8], out: &mut [u8]) -> Written {
     if input.len() < at {
         return none();
@@ -82,7 +82,7 @@ fn bits(count: usize, bytes: &[u8], out: &mut [u8]) -> Written {
     raw.iter_bits(bytes, out)
 }
 
-// The answer of a case that no writer has: it is none that is wanted.
+// The answer to a case that has no writer; no case wants it.
 fn none() -> Written {
     Written::Refused(Refusal {
         number: 0,

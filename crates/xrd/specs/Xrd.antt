@@ -1,4 +1,4 @@
--- osdp_XRD (0xB1), §7.26: the mode, and its reply.
+-- osdp_XRD (0xB1), R4.13, §7.26: the mode, and its reply.
 use Rattle.payload_util.specs.Prelude.{_∷_, drop, byteAt, atLeast, nothing, Outcome, gives, refuses, Form, tailed}
 use Rattle.payload_util.specs.declared.Guard.the-variants.{Pass}
 use Rattle.xrd.specs.declared.{Xrd.Xrd, XrdRead.XrdRead, XrdRead.the-variants.Read, XrdRead.the-variants.Refused}

@@ -47,7 +47,7 @@ impl Xrd {
         Xrd { mode: p[0] }
     }
 
-    // The mode's reply: its sub-reply code and data; nothing where reading refuses.
+    // The mode's reply, which is its sub-reply code and data; empty if reading refuses.
     pub fn payload(p: &[u8]) -> &[u8]
         ensures { λ r. ⌜ now r ≡ tail xrd (now (p .entry)) ⌝ }
     {

@@ -31,7 +31,7 @@ use Rattle.led_walker.proofs.started as this
 use Rattle.led_walker.proofs.started.Statement as stated
 use Rattle.led_walker.proofs.started.Code as code
 
--- nothing is had of the parameter at exit
+-- nothing of the parameter is left at exit
 abbrev stayed : Stays (this.ended .signature .params) (this.ended .kept)
 stayed = (stay-dropped payload yes, tt)
 

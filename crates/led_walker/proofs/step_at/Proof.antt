@@ -39,7 +39,7 @@ use Rattle.led_walker.proofs.step_at as this
 use Rattle.led_walker.proofs.step_at.Statement as stated
 use Rattle.led_walker.proofs.step_at.Code as code
 
--- nothing is had of the parameters at exit
+-- nothing of the parameters is left at exit
 abbrev stayed : Stays (this.ended .signature .params) (this.ended .kept)
 stayed = (stay-dropped payload yes, (stay-dropped (plain (λ _. usize)) yes, tt))
 

@@ -1,4 +1,4 @@
--- `all` is safe and ends: the turns fall, and the buffers keep their lengths. Assumes nothing.
+-- `all` is safe and ends: fewer turns are left each time, and the buffers keep their lengths. Assumes nothing.
 use mathlib.Core.Path.{_≡_}
 use borrow.Author.Needs.{needs}
 use lib.ListN.{length}

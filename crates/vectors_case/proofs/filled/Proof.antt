@@ -1,4 +1,4 @@
--- `filled` meets its contract. Each byte passed is b, so that the bytes left decide. Assumes nothing.
+-- `filled` meets its contract. Each byte that was passed is b, so the bytes that are left decide. Assumes nothing.
 use mathlib.Core.Logic.{_↔_, Iff·rfl, Iff·trans}
 use Prim.Native.Nat.{_-_}
 use borrow.Author.Needs.{needs}

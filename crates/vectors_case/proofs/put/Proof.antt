@@ -1,4 +1,4 @@
--- `put` meets its contract. So far it has put b at i - from indices; where from is above to, at none. Assumes nothing.
+-- `put` meets its contract. So far it has put b at i - from indices; if from is above to, at none. Assumes nothing.
 use mathlib.Core.Path.{_≡_, refl, _∙_}
 use Prim.Native.Nat.{ℕ, _-_, _≤_, _<_}
 use native.Mathlib.Omega.{arith}

@@ -13,10 +13,10 @@ within-limits-spec =
     (λ c κs. search needs) (λ c. search needs) (λ c. search needs)
     (λ c.
     let a = c .before .before .before .before .args in
-    stopped _ (c .before .before .require-limit .ensures) (c .enum-told2 .given .1) ∙ head-limits (a .number) (a .code) (a .p .now))
+    stopped _ (c .before .before .require-limit .ensures) (c .enum-told2 .given .1) ∙ head-limits 17 (a .code) (a .p .now))
     (λ c κs. search needs)
     (λ c.
     let told = c .before in
     let a = told .before .before .before .before .args in
     skipped (passed (told .before .before .require-limit .ensures) (told .enum-told .given .1)) (c .require-limit2 .ensures)
-    ∙ head-limits (a .number) (a .code) (a .p .now)))
+    ∙ head-limits 17 (a .code) (a .p .now)))

@@ -1,6 +1,6 @@
 -- `LedWalker::next` meets its contract: a walk of its MIR by hand. The borrow is opened, `moved_at` is called on the slice and the place that the
 -- struct holds, the place that it gives is stored, and the borrow is closed at the struct with that place.
--- The struct is Copy: what it owns is had again for the call, beside the token of the slice's lifetime, which the open borrow does not hold.
+-- The struct is Copy: what it owns is available again for the call, with the slice's lifetime token, which the open borrow does not hold.
 -- Assumes nothing.
 use Rattle.lists.proofs.Kit.{ !, Atoms, Body, Calls, Contract, Declared, FmC, Fml, Fun, GName, Given, Heap, Is, Lft, List, Loops, Meets, Memory}
 use Rattle.lists.proofs.Kit.{MutRef, NamedLft, RattleType, RefT, Routine, SProp, Share, ShrSlice, Slot, Stays, Tables, Triple, URA, Val, Walks, WpFn}

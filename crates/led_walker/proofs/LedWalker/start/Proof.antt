@@ -1,6 +1,6 @@
 -- `LedWalker::start` meets its contract: a walk of its MIR by hand. Two covered functions are called: `check` on the payload, and `tail_where` on
 -- the guard that it gives, for the part of the payload that the walker holds; a struct is made of that part, 0 and the guard.
--- A `&[u8]` is Copy, so what it owns is had again for the second call. What the number and the enum own is made anew.
+-- A `&[u8]` is Copy, so what it owns is available again for the second call. What the number and the enum own is made again.
 -- Assumes nothing.
 use Rattle.lists.proofs.Kit.{ !, Atoms, Calls, Contract, Declared, FmC, Fml, Fun, Given, Heap, Is, Lft, List, Loops, Meets, Memory, RefT, Routine}
 use Rattle.lists.proofs.Kit.{SProp, Share, ShrSlice, Stays, Tables, Triple, URA, Val, Walks, WpFn, WpFn-mono, [], _$_, _∵_, _∷_, _≡_, _⊛_, agg}
@@ -38,7 +38,7 @@ use Rattle.led_walker.proofs.LedWalker.start as start
 use Rattle.led_walker.proofs.LedWalker.start.Statement as stated
 use Rattle.led_walker.proofs.LedWalker.start.Code as code
 
--- nothing is had of the parameter at exit
+-- nothing of the parameter is left at exit
 abbrev stayed : Stays (start.ended .signature .params) (start.ended .kept)
 stayed = (stay-dropped payload yes, tt)
 

@@ -12,7 +12,7 @@ use Rattle.output.proofs.Laws.{record-reads}
 use Rattle.output.proofs.OutputRecord.decode.Statement.{statement}
 use Rattle.output.proofs.OutputRecord.decode.Tie as tie
 
--- the second guard is row 16, of length / 4 records
+-- the second guard is row 16 for length / 4 records
 counted : (c : tie.After-require-present) →
     let a = c .before .before .before .before .before .before .args in
     c .require-present .result ≡ present outCode (a .index) (length (now (a .p)) / 4)

@@ -1,4 +1,4 @@
--- `run` is safe and ends: the tries fall, and the buffer keeps its length. Assumes nothing.
+-- `run` is safe and ends: fewer tries are left each time, and the buffer keeps its length. Assumes nothing.
 use mathlib.Core.Path.{_≡_}
 use Prim.Native.Nat.{_-_}
 use borrow.Author.Needs.{needs}

@@ -1,4 +1,4 @@
--- `move_bytes` is safe and ends: the space keeps its length, and what is left to move falls. Assumes nothing.
+-- `move_bytes` is safe and ends: the space keeps its length, and fewer bytes are left to move each time. Assumes nothing.
 use mathlib.Core.Path.{_≡_}
 use Prim.Native.Nat.{_-_}
 use borrow.Author.Needs.{needs}

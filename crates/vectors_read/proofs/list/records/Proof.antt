@@ -1,4 +1,4 @@
--- `records` is safe and ends: the index stays in the wanted bytes, and what is left of them falls. Assumes nothing.
+-- `records` is safe and ends: the index stays in the wanted bytes, and fewer of them are left each time. Assumes nothing.
 use Prim.Native.Nat.{_≤_, _-_}
 use borrow.Author.Needs.{needs}
 use lib.ListN.{length}

@@ -1,4 +1,4 @@
--- `LedRecord::within_limits` meets its contract. Assumes nothing.
+-- `LedRecord::colors_within` meets its contract. Assumes nothing.
 use mathlib.Core.Path.{_≡_, sym, _∙_}
 use Prim.Native.Nat.{ℕ, _-_, _/_, _≤_}
 use lib.ListN.{length}
@@ -8,8 +8,8 @@ use Rattle.payload_util.proofs.Guards.{passed}
 use Rattle.payload_util.proofs.InOrder.{start, more, stop, done}
 use Rattle.led.proofs.Limits.{recordLimited, all-records}
 use borrow.Author.Needs.{needs}
-use Rattle.led.proofs.LedRecord.within_limits.Statement.{statement}
-use Rattle.led.proofs.LedRecord.within_limits.Tie as tie
+use Rattle.led.proofs.LedRecord.colors_within.Statement.{statement}
+use Rattle.led.proofs.LedRecord.colors_within.Tie as tie
 
 abbrev Inv-loop : tie.InvT-loop
 Inv-loop p highest number n k₀ k = (k ≤ n) × (inOrder (recordLimited number highest p) k (n - k) ≡ inOrder (recordLimited number highest p) 0 n)
@@ -32,8 +32,8 @@ loop-again c = (
       ∙ c .before .before .before .before .loop .inv .1,
 )
 
-pub within-limits-spec : {M : Type 1} → statement M
-within-limits-spec =
+pub colors-within-spec : {M : Type 1} → statement M
+colors-within-spec =
     tie.close
     (tie.spec
     Inv-loop
