@@ -39,7 +39,7 @@ def times(place):
 
 
 def counts():
-    """{(kind, size): {call: instructions}}, empty where valgrind is absent"""
+    """{(kind, size): {call: instructions}}, empty if valgrind is absent"""
     out = defaultdict(dict)
     cases = HERE / "counts.tsv"
     if not cases.exists():
@@ -149,6 +149,15 @@ def table():
                f"| {ns(key, 'decode+encode')} | {two(key, 'normalise', 'decode+encode')} | {ns(key, 'memcpy')} | {two(key, 'normalise', 'memcpy')} |")
 
 
+def largest():
+    """the largest ratio of each call, at the worse of the two places, and where it is"""
+    yield "| Call | over the Rust by code byte | over the Rust of the kind |"
+    yield "|---|---|---|"
+    for call, rust in (("check", "decode"), ("normalise", "decode+encode")):
+        worst = lambda other: max((max(both(key, call, other)), sized(key)) for key in KEYS)
+        yield f"| {call} | " + " | ".join(f"{ratio:.2f} ({where})" for ratio, where in map(worst, (rust, rust + "-of-type"))) + " |"
+
+
 def of_type():
     yield "| Kind | Bytes | check / decode | normalise / decode+encode |"
     yield "|---|--:|--:|--:|"
@@ -206,6 +215,7 @@ def page():
     yield ""
     yield from table()
     yield from section("Short of the target", TARGET, [*listed(shorts()), "", aimed()])
+    yield from section("Largest ratios", ("At the worse of the two places.",), largest())
     yield from section("Growth with the length", (
         "Nanoseconds for each byte more, between the two longest sizes. Where check does not read the tail, its time does not grow.",), growth())
     yield from section("Against the Rust of the kind alone", (
@@ -312,6 +322,8 @@ print()
 for missed in shorts():
     print(f"short of the target: {missed}")
 print(aimed())
+print()
+print("\n".join(largest()))
 if BESIDE:
     print("\n".join(beside_section()))
 print(f"written: {HERE}/PERFORMANCE.md and performance.svg")

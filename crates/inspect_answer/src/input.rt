@@ -23,11 +23,19 @@ pub struct Input {
     tally: Tally,
 }
 
+// How many bytes of the payload's buffer hold the line's first word, if that is what is wrong.
+fn word_len(line: Line, f: Fault) -> usize {
+    match f {
+        Fault::Word => line.len,
+        _ => 0,
+    }
+}
+
 impl Tally {
     // A line that is no payload. If its first word is wrong, that is shown.
     fn complain(mut self, line: Line, f: Fault, payload: &[u8], out: &mut [u8]) -> Tally {
         let values = [line.number as u64, line.column as u64, f.number()];
-        let word = first(payload, line.word_len(f));
+        let word = first(payload, word_len(line, f));
         self.at = form(b"line %d, column %d: %e%s\n", &values, word, out, self.at);
         self.bad = wrapping_add_u64(self.bad, 1);
         self

@@ -195,14 +195,6 @@ impl Line {
         self.bad(Fault::Word)
     }
 
-    // How many bytes of the payload's buffer hold the word, if that is what is wrong.
-    pub fn word_len(self, fault: Fault) -> usize {
-        match fault {
-            Fault::Word => self.len,
-            _ => 0,
-        }
-    }
-
     // The first digit of a byte.
     fn first(mut self, b: u8, next: Place, fault: Fault) -> Line {
         let d = digit(b);
