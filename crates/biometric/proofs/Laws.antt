@@ -65,7 +65,7 @@ bio-read-law =
     (λ p b g.
     let e = exact-pass 4 _ p g in
     rw (ended 4 p e) at (head-kept p b (omega arith)))
-    (λ p b g. refl) (λ r w. ap (λ (h : BioHead). record { head = h }) (head-back (r .head) [])) (λ p g. simp length-keep g) (λ r w. refl)
+    (λ p b g. refl) (λ r w. ap (λ (h : BioHead). record { head = h }) (head-back (r .head) [])) (λ p. simp length-keep) (λ r w. refl)
 
 -- ---- a head with a template, under any code
 
@@ -81,11 +81,16 @@ module _ (code : ℕ) (p : List ℕ) (g : checkTemplate code p ≡ Pass) where
   template-fits : Bytes p → atMost 65535 code (drop 6 p) ≡ Pass
   template-fits b = fits-word p code 6 4 5 b (template-pass .1)
 
-  template-steady : checkTemplate code (keep bioLimits p) ≡ Pass
-  unfolding checkTemplate atLeast declaredLen
-  template-steady =
-      let same : u16At (keep bioLimits p) 4 ≡ u16At p 4 = sym (by-head 6 p (λ q. u16At (keep bioLimits q) 4) (template-pass .0) refl) in
-      simp (length-keep, same) g
+-- the length field is not folded
+length-stays : (p : List ℕ) → u16At (keep bioLimits p) 4 ≡ u16At p 4
+length-stays [] = refl
+length-stays (a ∷ []) = refl
+length-stays (a ∷ b ∷ []) = refl
+length-stays (a ∷ b ∷ d ∷ p) = refl
+
+template-steady : (code : ℕ) (p : List ℕ) → checkTemplate code (keep bioLimits p) ≡ checkTemplate code p
+unfolding checkTemplate atLeast declaredLen
+template-steady code p = simp (length-keep, length-stays)
 
 template-written : (code : ℕ) (h : BioHead) (t : List ℕ) → checkTemplate code (headBytes h ++ u16Bytes (length t) ++ t) ≡ Pass
 unfolding checkTemplate

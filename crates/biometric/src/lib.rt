@@ -41,7 +41,7 @@ pub enum BioType {
 }
 
 impl BioType {
-    pub const HIGHEST: u8 = 0x11;
+    const HIGHEST: u8 = 0x11;
 
     // Any other byte becomes NotSpecified.
     pub fn from_byte(b: u8) -> BioType
@@ -104,7 +104,7 @@ pub enum BioFormat {
 }
 
 impl BioFormat {
-    pub const HIGHEST: u8 = 2;
+    const HIGHEST: u8 = 2;
 
     // Any other byte becomes NotSpecified.
     pub fn from_byte(b: u8) -> BioFormat
@@ -148,7 +148,7 @@ impl BioHead {
     // Where a template starts: after the head and the length field.
     pub const TEMPLATE_AT: usize = 6;
 
-    pub const TEMPLATE_MAX: usize = 65535;
+    const TEMPLATE_MAX: usize = 65535;
 
     pub fn new(reader: u8, bio_type: BioType, bio_format: BioFormat, quality: u8) -> BioHead
         ensures { λ r. ⌜ r ≡ record { reader = reader; «bio_type» = «bio_type»; «bio_format» = «bio_format»; quality = quality } ⌝ }

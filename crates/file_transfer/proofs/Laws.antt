@@ -18,5 +18,5 @@ file-transfer-law =
     let (h, e) = head-and-tail-pass 11 _ p _ g in
     by-head 11 p (λ q. q) h (simp (e, low-byte, high-byte, low-word, high-word)))
     (λ p b g. fits-word p _ 11 9 10 b (head-and-tail-pass 11 _ p _ g .1))
-    (λ f t w. simp mod-add-div) (λ f t. refl) (λ p u. refl) (λ p g. g)
+    (λ f t w. simp mod-add-div) (λ f t. refl) (λ p u. refl) (λ p. refl)
     (λ f t w. pass-head-and-tail 11 _ _ _ (omega (arith, mod-add-div (length t) 256)))

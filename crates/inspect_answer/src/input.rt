@@ -6,6 +6,7 @@ use inspect_form::table::nth;
 use inspect_line::Fault;
 use inspect_line::Line;
 use inspect_line::Place;
+use inspect_line::WORD_SHOWN;
 use std::num::wrapping_add_u64;
 use std::num::wrapping_add_usize;
 
@@ -34,9 +35,17 @@ fn word_len(line: Line, f: Fault) -> usize {
 impl Tally {
     // A line that is no payload. If its first word is wrong, that is shown.
     fn complain(mut self, line: Line, f: Fault, payload: &[u8], out: &mut [u8]) -> Tally {
-        let values = [line.number as u64, line.column as u64, f.number()];
-        let word = first(payload, word_len(line, f));
-        self.at = form(b"line %d, column %d: %e%s\n", &values, word, out, self.at);
+        let len = word_len(line, f);
+        let is_cut = if WORD_SHOWN < len { 1 } else { 0 };
+        let values = [
+            line.number as u64,
+            line.column as u64,
+            f.number(),
+            0,
+            is_cut,
+        ];
+        let word = first(first(payload, len), WORD_SHOWN);
+        self.at = form(b"line %d, column %d: %e%s%m\n", &values, word, out, self.at);
         self.bad = wrapping_add_u64(self.bad, 1);
         self
     }

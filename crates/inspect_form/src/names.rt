@@ -21,6 +21,7 @@ pub fn name(letter: u8, n: u64, out: &mut [u8], at: usize) -> usize {
           UnableToProcessCommandRecord\
           ;%w command.reply\
           ;%y .strict: \
+          ;%m . (cut)\
           ;%r .command byte in no table.reply byte in no table.not the exact length (expected, got).\
           below the least length (least, got).empty or not a multiple of the record length (record length, got).\
           declared length or count is not the payload's.output code above 6.text byte not printable.\

@@ -5,8 +5,8 @@ use std::num::wrapping_add_usize;
 // The longest payload that is taken: one byte above what the library takes, so that row 28 can be seen.
 pub const LONGEST: usize = 65547;
 
-// The most bytes of a wrong first word that are kept, to be shown.
-const WORD_MAX: usize = 20;
+// The most bytes of a wrong first word that are shown. One more is kept, which tells that the word is longer.
+pub const WORD_SHOWN: usize = 20;
 
 // What is wrong with a line.
 pub enum Fault {
@@ -172,7 +172,7 @@ impl Line {
         }
         self.letters = self.letters % 0x1_00_00_00_00_00_00_00 * 256 + b as u64;
         let len = self.len;
-        if len < WORD_MAX {
+        if len <= WORD_SHOWN {
             self.len = len + 1;
             self.byte = b;
         }

@@ -54,5 +54,5 @@ led-kept p b g =
 pub led-law : Law leds
 unfolding blocksFrom
 led-law =
-    listed-law (λ r. refl) led-restored (omega arith) (λ p g. multiple-pass 14 ledCode p g .1) led-kept (λ p g. simp length-keep g)
+    listed-law (λ r. refl) led-restored (omega arith) (λ p g. multiple-pass 14 ledCode p g .1) led-kept (λ p. simp length-keep)
     (λ rs some e. pass-multiple 14 ledCode (flat ledBytes rs) (length rs) (omega arith) some e)

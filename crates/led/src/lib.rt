@@ -32,7 +32,7 @@ pub enum LedColor {
 }
 
 impl LedColor {
-    pub const HIGHEST: u8 = 7;
+    const HIGHEST: u8 = 7;
 
     // An unknown colour becomes Black.
     pub fn from_byte(b: u8) -> LedColor

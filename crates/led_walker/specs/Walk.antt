@@ -1,4 +1,4 @@
--- Walking an LED payload record by record: what starting gives, what a step does, and what n steps hand out.
+-- Walking an LED payload record by record (R5.2): what starting gives, what a step does, and what n steps hand out.
 use denote.Ref.{now}
 use Rattle.payload_util.specs.Prelude.{List, [], _∷_, ℕ, zero, suc, _+_, cond, ltb, length, drop, tailWhere, check}
 use Rattle.payload_util.specs.declared.Guard.{Guard}

@@ -65,11 +65,11 @@ error-and-codes : (t : Bool) (p : List ℕ) → 1 ≤ length p → byteAt p 0 �
 error-and-codes true p h = by-head 1 p (λ q. q) h refl
 error-and-codes false p h = by-head 1 p (take 1) h refl
 
-nak-steady : (t : Bool) (p : List ℕ) → check nak p ≡ Pass → check nak (cond t p (take 1 p)) ≡ Pass
+nak-steady : (t : Bool) (p : List ℕ) → check nak (cond t p (take 1 p)) ≡ check nak p
 unfolding atLeast
-nak-steady true p g = g
-nak-steady false [] g = g
-nak-steady false (b ∷ p) g = simp (le-leb 1 (length (b ∷ p)) (omega arith)) at g
+nak-steady true p = refl
+nak-steady false [] = refl
+nak-steady false (b ∷ p) = simp (le-leb 1 (length (b ∷ p)) (omega arith))
 
 pub nak-law : Law nak
 unfolding readNakError
@@ -81,5 +81,5 @@ nak-law =
     (error-and-codes (eqb (byteAt p 0) completionError) p (least-pass 1 nakCode p least)))
     (λ p b g. refl)
     (λ n t w. simp nak-error-back) (λ n t. refl) (λ p u. sym (kept-codes p) ∙ ap (drop 1) (kept-whole (loss nak) p u refl))
-    (λ p g. nak-steady (eqb (byteAt p 0) completionError) p g)
+    (λ p. nak-steady (eqb (byteAt p 0) completionError) p)
     (λ n t w. simp (pass-least 1 nakCode (nakErrorByte (n .error) ∷ t) (omega arith), nak-error-back))

@@ -15,7 +15,8 @@ use Rattle.payload_util.specs.Loss.{limits, without, limited, withinLimits}
 use Rattle.payload_util.specs.Form.{code, loss, check as checkOf, strict as strictOf, normalise as normaliseOf}
 use Rattle.payload_util.specs.declared.Guard.{Guard}
 use Rattle.payload_util.specs.declared.Guard.the-variants.{Pass, Refused}
-use Rattle.payload_util.specs.declared.Written.the-variants.{Wrote}
+use Rattle.payload_util.specs.declared.Written.the-variants.{Wrote, Refused as NotWritten}
+use Rattle.payload_util.specs.declared.Refusal.{Refusal}
 use Rattle.payload_util.proofs.Guards.{check-pass, also-pass, pass-room}
 use Rattle.payload_util.proofs.InOrder.{all-pass}
 use Rattle.payload_util.proofs.Losses.{without-le, kept-all, kept-whole}
@@ -94,8 +95,12 @@ module _ (side : Side) (c : ℕ) (p out : List ℕ) (b : Bytes p) where
       let w : normaliseOf (form k) p out .0 ≡ Wrote n = rw e at h in
       let (named, short) = kind-gives side c p k e in
       let same = still side c (without (loss (form k)) p) k named (omega (arith, without-le (loss (form k)) p)) in
-      (no-more k p out b n w, rw (e, written-is k p out b n w, same) (law k .steady p (passes k p out b n w)))
+      (no-more k p out b n w, rw (e, written-is k p out b n w, same) (law k .steady p ∙ passes k p out b n w))
   two n (refuses r) e h = let w = rw e at h in let z : _≡_ {A = ℕ} 0 1 = cc in absurd (omega arith)
+
+  refused : (e : Refusal) (o : Outcome Kind) → kindFor side c p ≡ o → check side c p ≡ Refused e → normalise side c p out ≡ (NotWritten e, out)
+  refused e (gives k) q h = let h′ : checkOf (form k) p ≡ Refused e = rw q at h in rw q (simp h′)
+  refused e (refuses r) q h = let h′ : Refused r ≡ Refused e = rw q at h in rw q (let same : r ≡ e = cc in rw same)
 
   three : (o : Outcome Kind) → kindFor side c p ≡ o → strict side c p ≡ Pass → (kindOf side c ≡ Carried Nak → ⊥)
       → length p ≤ length out → normalise side c p out ≡ (Wrote (length p), p ++ drop (length p) out)
@@ -120,6 +125,7 @@ promises-hold side c p out b =
     let o = kindFor side c p in (
       (λ room. one side c p out b room o refl),
       (λ n w. two side c p out b n o refl w),
+      (λ e h. refused side c p out b e o refl h),
       (λ s n room. three side c p out b o refl s n room),
     )
 

@@ -23,7 +23,7 @@ use Rattle.osdp.specs.ByCode.{notTooLong, kindFor}
 use Rattle.osdp.specs.Starred.{starred, RefusedAs, AllHold, none, _and_, greenBytes, green, dark}
 
 -- what holds of each record of a list of one or two
-one : (P : ℕ → Type 0) → P 0 → (k : ℕ) → k < 1 → P k
+pub one : (P : ℕ → Type 0) → P 0 → (k : ℕ) → k < 1 → P k
 one P first zero h = first
 one P first (suc k) h = absurd (omega arith)
 

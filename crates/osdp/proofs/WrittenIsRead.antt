@@ -24,7 +24,7 @@ pub written-is-read : WrittenIsRead
 written-is-read k r b w =
     let passes = written-passes (form k) (law k) r b w in (
       accepts (form k) (law k) b passes,
-      (λ short. own-codes k .2 b b short .0 ∙ passes),
+      (λ short. own-codes .0 k .2 b b short .0 ∙ passes),
       (λ nak. written-reads (form k) (law k) r b w (uncut k b nak)),
     )
 

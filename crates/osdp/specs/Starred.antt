@@ -1,10 +1,13 @@
 -- The starred payloads of R8.1, as one list.
 use Prim.Native.Nat.{_-_}
 use lib.ListN.{replicate}
+use lib.IntN.{ℤ}
 use Rattle.payload_util.specs.Prelude.{_≡_, List, [], _∷_, _++_, ℕ, length, row, refuses, Form, fixed, tailed, listed, read, Effect}
 use Rattle.payload_util.specs.Form.{Record, ReadsAs, written, normalise as normaliseOf}
 use Rattle.payload_util.specs.declared.{Refusal.Refusal, Guard.Guard, Guard.the-variants.Pass, Guard.the-variants.Refused}
+use Rattle.payload_util.specs.declared.Written.{Written}
 use Rattle.payload_util.specs.declared.Written.the-variants.{Wrote, Refused as NotWritten}
+use Rattle.raw_card.specs.Raw.{bitsOf}
 use Rattle.led.specs.declared.{LedRecord.LedRecord, LedColor.LedColor}
 use Rattle.led.specs.declared.LedColor.the-variants.{Black, Red, Green}
 use Rattle.output.specs.declared.OutputControlCode.the-variants.{TemporaryOnResume}
@@ -14,18 +17,24 @@ use Rattle.osdp.specs.declared.{Side.Side, Side.the-variants.Command, Ki
 use Rattle.osdp.specs.declared.Kind.the-variants.{Led, Out, Text, BioRead, FileTransfer, Raw, Nak}
 use Rattle.osdp.specs.Kinds.{form}
 use Rattle.osdp.specs.ByCode.{check, strict, normalise}
+use Rattle.osdp.specs.Signed.{answerOf, countOf}
 
--- What a kind says: a payload and what it reads as, is refused as, or normalises to; a record, a buffer and the refusal of writing the one into the
--- other; a list and the refusal of its record of an index. By side and code byte: what check and strict answer, and what normalise writes.
+-- What a kind says of a payload: what it reads as, how it is refused, what it normalises to, and how a list refuses to give the record at an index. Of a
+-- record: what is written, and how writing into a buffer is refused.
+-- By side and code byte: what check and strict answer, and what normalise writes. And RAW's single bits, and what C is told.
 pub data Case : Type 0 where
   reads : (k : Kind) → List ℕ → Record (form k) → Case
   isRefused : Kind → List ℕ → Refusal → Case
   normalises : Kind → List ℕ → List ℕ → Case
-  isNotWritten : (k : Kind) → Record (form k) → List ℕ → Refusal → Case
   hasNoRecord : Kind → List ℕ → ℕ → Refusal → Case
+  isWritten : (k : Kind) → Record (form k) → List ℕ → Case
+  isNotWritten : (k : Kind) → Record (form k) → List ℕ → Refusal → Case
   checkSays : Side → ℕ → List ℕ → Guard → Case
   strictSays : Side → ℕ → List ℕ → Guard → Case
   normaliseGives : Side → ℕ → List ℕ → List ℕ → Case
+  hasBits : ℕ → List ℕ → List ℕ → Case
+  isTold : Guard → ℤ → Case
+  isCounted : Written → ℤ → Case
 
 -- the reader refuses the payload; a list's, whichever record is asked for
 abbrev pub RefusedAs : Form → List ℕ → Refusal → Type 0
@@ -50,10 +59,14 @@ Holds (reads k p r) = ReadsAs (form k) p r
 Holds (isRefused k p e) = RefusedAs (form k) p e
 Holds (normalises k p q) = normaliseOf (form k) p (zeros p) ≡ filled p q
 Holds (normaliseGives side b p q) = normalise side b p (zeros p) ≡ filled p q
+Holds (isWritten k r q) = written (form k) r (zeros q) ≡ filled q q
 Holds (isNotWritten k r out e) = written (form k) r out ≡ (NotWritten e, out)
 Holds (hasNoRecord k p i e) = RecordRefused (form k) p i e
 Holds (checkSays side b p g) = check side b p ≡ g
 Holds (strictSays side b p g) = strict side b p ≡ g
+Holds (hasBits count bytes bits) = bitsOf count bytes ≡ bits
+Holds (isTold g n) = answerOf g ≡ n
+Holds (isCounted w n) = countOf w ≡ n
 
 infixr 10 _and_
 pub data AllHold : List Case → Type 0 where

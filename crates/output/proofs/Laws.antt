@@ -108,5 +108,5 @@ out-law =
           simp (getD-drop, e) (known (suc k) (omega arith))),
     ))
     (length p / 4) p b (out-blocks p g .0) (out-codes p g))
-    (λ p g. g)
+    (λ p. refl)
     (λ rs some e. simp (pass-multiple 4 outCode (flat outBytes rs) (length rs) (omega arith) some e, written-codes rs e))

@@ -18,7 +18,7 @@ module _ {A : Type 0} {k : Fixed A} where
   pub fixed-law : ((p : List ℕ) → Bytes p → check (fixed k) p ≡ Pass → k .bytes (k .fields p) ≡ without (k .loss) p)
       → ((p : List ℕ) → Bytes p → check (fixed k) p ≡ Pass → k .refuse (k .code) (k .fields p) ≡ Pass)
       → ((r : A) → k .refuse (k .code) r ≡ Pass → k .fields (k .bytes r) ≡ r)
-      → ((p : List ℕ) → check (fixed k) p ≡ Pass → check (fixed k) (without (k .loss) p) ≡ Pass)
+      → ((p : List ℕ) → check (fixed k) (without (k .loss) p) ≡ check (fixed k) p)
       → ((r : A) → k .refuse (k .code) r ≡ Pass → check (fixed k) (k .bytes r) ≡ Pass)
       → Law (fixed k)
   fixed-law keeps writable restores steady readable = record {
@@ -39,7 +39,7 @@ module _ {A : Type 0} {k : Tailed A} (n : ℕ) where
       → ((r : A) (t : List ℕ) → k .refuse (k .code) r t ≡ Pass → k .fields (k .bytes r t) ≡ r)
       → ((r : A) (t : List ℕ) → drop n (k .bytes r t) ≡ t)
       → ((p : List ℕ) → length (without (k .loss) p) ≡ length p → k .rest p ≡ drop n p)
-      → ((p : List ℕ) → check (tailed k) p ≡ Pass → check (tailed k) (without (k .loss) p) ≡ Pass)
+      → ((p : List ℕ) → check (tailed k) (without (k .loss) p) ≡ check (tailed k) p)
       → ((r : A) (t : List ℕ) → k .refuse (k .code) r t ≡ Pass → check (tailed k) (k .bytes r t) ≡ Pass)
       → Law (tailed k)
   tailed-law keeps writable restores restores-tail rest-is steady readable = record {
@@ -69,7 +69,7 @@ module _ {A : Type 0} {k : Listed A} where
       → zero < k .width
       → ((p : List ℕ) → check (listed k) p ≡ Pass → zero < length p / k .width)
       → ((p : List ℕ) → Bytes p → check (listed k) p ≡ Pass → flat (k .bytes) (each (k .fields) (k .width) (length p / k .width) p) ≡ without (k .loss) p)
-      → ((p : List ℕ) → check (listed k) p ≡ Pass → check (listed k) (without (k .loss) p) ≡ Pass)
+      → ((p : List ℕ) → check (listed k) (without (k .loss) p) ≡ check (listed k) p)
       → ((rs : List A) → zero < length rs → length (flat (k .bytes) rs) ≡ length rs * k .width → check (listed k) (flat (k .bytes) rs) ≡ Pass)
       → Law (listed k)
   listed-law size restores pos some keeps steady readable = record {

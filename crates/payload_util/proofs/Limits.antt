@@ -10,10 +10,11 @@ use lib.Dec.{leb}
 use lib.ListN.{length, getD, List·getD-eq-default}
 use Rattle.payload_util.specs.Refusals.{row, require, inOrder}
 use Rattle.payload_util.specs.Bytes.{byteAt}
-use Rattle.payload_util.specs.Loss.{Keep, any, upTo, fits, Loss, limits, limited, withinLimits}
+use Rattle.payload_util.specs.Loss.{Keep, any, upTo, fits, Loss, limits, without, limited, withinLimits}
 use Rattle.payload_util.specs.declared.Guard.{Guard}
 use Rattle.payload_util.specs.declared.Guard.the-variants.{Pass}
-use Rattle.payload_util.proofs.InOrder.{up-to}
+use Rattle.payload_util.proofs.InOrder.{up-to, pass-all}
+use Rattle.payload_util.proofs.Losses.{all-fit, whole-kept}
 
 -- the row if the byte at an offset is above the highest, as `require_limit` gives it
 abbrev pub limitAt : ℕ → ℕ → ℕ → List ℕ → ℕ → Guard
@@ -29,6 +30,11 @@ module _ (number code : ℕ) (l : Loss) (p : List ℕ) where
 
   past-end : (k : ℕ) → length p ≤ k → limited number code l p k ≡ Pass
   past-end k h = simp (List·getD-eq-default p 0 {n = k} h, zero-fits)
+
+  -- nothing of the payload would be folded
+  pub none-folded : without l p ≡ p → withinLimits number code l p ≡ Pass
+  unfolding withinLimits
+  none-folded e = pass-all (limited number code l p) (length p) (λ at lt. simp (all-fit (limits l p) p (whole-kept l p e) at lt))
 
   -- as many checks as there are limits, or more
   pub by-limits : (m : ℕ) → length (limits l p) ≤ m → withinLimits number code l p ≡ inOrder (limited number code l p) 0 m

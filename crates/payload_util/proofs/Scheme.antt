@@ -5,20 +5,20 @@ use mathlib.Core.Logic.{_↔_}
 use mathlib.Core.List.{List, _++_}
 use Prim.Native.Nat.{ℕ, zero, _*_, _/_, _<_}
 use native.Mathlib.Omega.{arith}
-use lib.ListN.{length, getD, take, drop}
-use lib.Seq.{take-at, ext-getD}
+use lib.ListN.{length, getD, take, drop, length-append, length-drop}
+use lib.Seq.{take-at, drop-at, ext-getD}
 use Rattle.payload_util.specs.Bytes.{Bytes}
 use Rattle.payload_util.specs.Refusals.{_also_}
-use Rattle.payload_util.specs.Outcome.{gives, outcome, tailWhere}
+use Rattle.payload_util.specs.Outcome.{Outcome, gives, refuses, outcome, tailWhere}
 use Rattle.payload_util.specs.Guards.{room, present}
-use Rattle.payload_util.specs.Writing.{Effect, effect, roomLast, putChecked, rewrite}
+use Rattle.payload_util.specs.Writing.{Effect, effect, roomLast, putChecked, Leaves, rewrite}
 use Rattle.payload_util.specs.Loss.{Loss, without}
 use Rattle.payload_util.specs.Form.{Listed, Form, fixed, tailed, listed, code, loss, check, Record, whole, refuse, bytes}
 use Rattle.payload_util.specs.Form.{read, written, normalise, Accepted, ReadsAs, WritesAs, LosesOnly}
 use Rattle.payload_util.specs.declared.Guard.{Guard}
 use Rattle.payload_util.specs.declared.Guard.the-variants.{Pass, Refused}
 use Rattle.payload_util.specs.declared.Written.the-variants.{Wrote}
-use Rattle.payload_util.proofs.Guards.{also-pass, gives-pass, pass-present}
+use Rattle.payload_util.proofs.Guards.{also-pass, gives-pass, pass-present, room-pass}
 use Rattle.payload_util.proofs.Each.{length-each, each-at}
 
 -- a list has a record
@@ -36,8 +36,8 @@ pub record Law (f : Form) : Type 0 where
   -- the bytes of a record that is not refused give the record back
   pub back : List ℕ → Record f
   pub restored : (r : Record f) → refuse f r ≡ Pass → back (bytes f r) ≡ r
-  -- what is accepted stays accepted without what is lost
-  pub steady : (p : List ℕ) → check f p ≡ Pass → check f (without (loss f) p) ≡ Pass
+  -- what is lost does not decide whether a payload is accepted
+  pub steady : (p : List ℕ) → check f (without (loss f) p) ≡ check f p
   -- what is written is accepted, and holds the record, unless reading cuts a part of it off
   pub readable : (r : Record f) → refuse f r ≡ Pass → check f (bytes f r) ≡ Pass
   pub reread : (r : Record f) → refuse f r ≡ Pass → length (without (loss f) (bytes f r)) ≡ length (bytes f r) → whole f (bytes f r) ≡ r
@@ -109,6 +109,26 @@ wrote g code bs out n e = go g (room code (length bs) (length out)) e
     go Pass (Refused x) k = let z : _≡_ {A = ℕ} 0 1 = cc in absurd (omega arith)
     go (Refused x) Pass k = let z : _≡_ {A = ℕ} 0 1 = cc in absurd (omega arith)
     go (Refused x) (Refused y) k = let z : _≡_ {A = ℕ} 0 1 = cc in absurd (omega arith)
+
+-- ---- what writing leaves of the buffer
+
+pub leaves : (g : Guard) (code : ℕ) (bs out : List ℕ) → Leaves (putChecked g code bs out) out
+leaves (Refused e) code bs out = refl
+leaves Pass code bs out = go (room code (length bs) (length out)) refl
+  where
+    go : (r : Guard) → room code (length bs) (length out) ≡ r → Leaves (effect r bs out) out
+    go Pass q =
+        let fits = room-pass code (length bs) (length out) q in
+        (fits, length-append bs (drop (length bs) out) ∙ omega (arith, length-drop (length bs) out), drop-at bs (drop (length bs) out) (length bs) refl)
+    go (Refused e) q = refl
+
+pub rewrite-leaves : {A : Type 0} (o : Outcome A) (writes : A → Effect) (out : List ℕ) → ((a : A) → Leaves (writes a) out)
+    → Leaves (rewrite o writes out) out
+rewrite-leaves (gives a) writes out h = h a
+rewrite-leaves (refuses e) writes out h = refl
+
+pub normalise-leaves : (f : Form) (p out : List ℕ) → Leaves (normalise f p out) out
+normalise-leaves f p out = rewrite-leaves (outcome (check f p) (whole f p)) (λ r. written f r out) out (λ r. leaves (refuse f r) (code f) (bytes f r) out)
 
 module _ (f : Form) (law : Law f) where
   injective : (r s : Record f) → refuse f r ≡ Pass → refuse f s ≡ Pass → bytes f r ≡ bytes f s → r ≡ s

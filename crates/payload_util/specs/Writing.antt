@@ -1,5 +1,6 @@
--- What a writer leaves: its answer and the buffer. Row 15 comes last, and a refusal changes no byte.
-use Prim.Native.Nat.{ℕ}
+-- What a writer leaves: its answer and the buffer (R6.4, R7.2). Row 15 comes last, and a refusal changes no byte.
+use mathlib.Core.Path.{_≡_}
+use Prim.Native.Nat.{ℕ, _≤_}
 use mathlib.Core.List.{List, _++_}
 use lib.ListN.{length, drop}
 use Rattle.payload_util.specs.Refusals.{_also_}
@@ -27,6 +28,11 @@ putChecked own code bytes out = effect (roomLast own (room code (length bytes) (
 
 abbrev pub put : ℕ → List ℕ → List ℕ → Effect
 put code bytes out = putChecked Pass code bytes out
+
+-- R7.2: a refusal leaves the buffer as it was; a success leaves its length, and the bytes after the written ones
+abbrev pub Leaves : Effect → List ℕ → Type 0
+Leaves (Wrote n, after) out = (n ≤ length out) × (length after ≡ length out) × (drop n after ≡ drop n out)
+Leaves (NotWritten e, after) out = after ≡ out
 
 -- a payload read, and its record written again
 abbrev pub rewrite : {A : Type 0} → Outcome A → (A → Effect) → List ℕ → Effect

@@ -67,5 +67,5 @@ text-law =
     let (whole, shown, command) = text-passes p g in
     let short : length (drop 6 p) ≤ 255 = omega (arith, head-and-tail-pass 6 textCode p (byteAt p 5) whole .1, b 5) in
     simp (shown, pass-most 255 textCode (drop 6 p) short))
-    (λ t s w. simp text-command-back) (λ t s. refl) (λ p u. refl) (λ p g. g)
+    (λ t s w. simp text-command-back) (λ t s. refl) (λ p u. refl) (λ p. refl)
     (λ t s w. text-written t s (also-left (printable s) (atMost 255 textCode s) w))
