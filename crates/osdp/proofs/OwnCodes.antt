@@ -10,19 +10,16 @@ use lib.Dec.{eqb}
 use Rattle.payload_util.specs.Outcome.{Outcome, named}
 use Rattle.payload_util.specs.Writing.{rewrite}
 use Rattle.payload_util.specs.Form.{code, check as checkOf, strict as strictOf, normalise as normaliseOf}
-use Rattle.codes.specs.CommandCode.{readCommand}
-use Rattle.codes.specs.ReplyCode.{readReply}
 use Rattle.payload_util.specs.declared.Guard.{Guard}
 use Rattle.payload_util.specs.declared.Guard.the-variants.{Pass, Refused}
 use Rattle.osdp.specs.declared.Side.{Side}
-use Rattle.osdp.specs.declared.Side.the-variants.{Command, Reply}
 use Rattle.osdp.specs.declared.Kind.{Kind}
-use Rattle.osdp.specs.declared.Kind.the-variants.{Led, Out, Text, BioRead, BioMatch, FileTransfer, Mfg, Raw, Fmt, BioReadR, BioMatchR, Nak, Xrd}
 use Rattle.osdp.specs.declared.Lookup.{Lookup}
 use Rattle.osdp.specs.declared.Lookup.the-variants.{Carried, NotCarried}
 use Rattle.osdp.specs.Kinds.{form, kinds, inTable, lookup, kindOf}
 use Rattle.osdp.specs.ByCode.{asked}
 use Rattle.osdp.specs.Promises.{sideAndCode, OwnCode, OwnCodes}
+use Rattle.osdp.proofs.Laws.{own-code, OnSide, kinds-on-side}
 use Rattle.osdp.proofs.Lookups.{by-kind}
 
 own : (k : Kind) (side : Side) (b : ℕ) → code (form k) ≡ b → kindOf side b ≡ Carried k → OwnCode k side b
@@ -36,31 +33,6 @@ own k side b is named = (
         ap (λ (o : Outcome Kind). rewrite o (λ j. normaliseOf (form j) p out) out) found,
       ),
 )
-
-each-own : (k : Kind) → OwnCode k (sideAndCode k .0) (sideAndCode k .1)
-unfolding kindOf readCommand readReply
-each-own Led = own Led _ _ refl refl
-each-own Out = own Out _ _ refl refl
-each-own Text = own Text _ _ refl refl
-each-own BioRead = own BioRead _ _ refl refl
-each-own BioMatch = own BioMatch _ _ refl refl
-each-own FileTransfer = own FileTransfer _ _ refl refl
-each-own Mfg = own Mfg _ _ refl refl
-each-own Raw = own Raw _ _ refl refl
-each-own Fmt = own Fmt _ _ refl refl
-each-own BioReadR = own BioReadR _ _ refl refl
-each-own BioMatchR = own BioMatchR _ _ refl refl
-each-own Nak = own Nak _ _ refl refl
-each-own Xrd = own Xrd _ _ refl refl
-
--- all kinds of a list are on a side
-abbrev OnSide : Side → List Kind → Type 0
-OnSide side [] = Unit
-OnSide side (k ∷ ks) = (sideAndCode k .0 ≡ side) × OnSide side ks
-
-kinds-on-side : (side : Side) → OnSide side (kinds side)
-kinds-on-side Command = (refl, (refl, (refl, (refl, (refl, (refl, (refl, tt)))))))
-kinds-on-side Reply = (refl, (refl, (refl, (refl, (refl, (refl, tt))))))
 
 -- the kind that a list has for a byte is on the list's side, and has the byte
 found-in : (side : Side) (ks : List Kind) → OnSide side ks → (b : ℕ) (k : Kind) → named (λ j. code (form j)) Carried NotCarried ks b ≡ Carried k
@@ -83,8 +55,8 @@ looked-up (Refused r) l k e = let z : _≡_ {A = ℕ} 0 1 = cc in absurd (omega 
 pub own-codes : OwnCodes
 unfolding kindOf
 own-codes = (
-  each-own,
+  (λ k. own k _ _ (own-code k .0) (own-code k .1)),
   (λ side b k e.
       let (on, has) = found-in side (kinds side) (kinds-on-side side) b k (looked-up (inTable side b) _ k e) in
-      λ i. (sym on i, (sym has ∙ each-own k .0) i)),
+      λ i. (sym on i, (sym has ∙ own-code k .0) i)),
 )
