@@ -96,6 +96,10 @@ unfolding codesKnown
 written-codes rs e =
     pass-all (codeKnown (flat outBytes rs)) (length (flat outBytes rs) / 4) (λ k h. code-written rs k (omega (arith, ap (λ (n : ℕ). n / 4) e)))
 
+-- what is written is accepted
+out-written : (rs : List OutputRecord) → 0 < length rs → length (flat outBytes rs) ≡ length rs * 4 → check outputs (flat outBytes rs) ≡ Pass
+out-written rs some e = simp (pass-multiple 4 outCode (flat outBytes rs) (length rs) (omega arith) some e, written-codes rs e)
+
 pub out-law : Law outputs
 out-law =
     listed-law (λ r. refl) (λ r t. simp (mod-add-div, output-back)) (omega arith) (λ p g. out-blocks p g .1)
@@ -109,4 +113,4 @@ out-law =
     ))
     (length p / 4) p b (out-blocks p g .0) (out-codes p g))
     (λ p. refl)
-    (λ rs some e. simp (pass-multiple 4 outCode (flat outBytes rs) (length rs) (omega arith) some e, written-codes rs e))
+    out-written
