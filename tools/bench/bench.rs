@@ -1,12 +1,16 @@
-//! Times of the C calls and of the original Rust on the same payloads: bench [count]
+//! Times of the C calls, of the readers and of the original Rust on the same payloads: bench [count]
 //! A line for each kind, size and call: KIND SIZE CALL NANOSECONDS, the median of interleaved rounds. With `count`, each call is made once in
 //! `measured`, for callgrind, and the lines have no time. Built with cfg `beside`, a second library's calls are measured too.
+//! Before anything is measured, each call is made at every place that it is measured at, and its answer and the output are held to what the
+//! original gives; so are the answers of the measured calls, and the output they leave. What is wrong is named, and the program exits with 1.
+mod calls;
+mod number;
+
+use calls::{calls, Call, Run};
 use judge::chance::Chance;
-use judge::kinds::{Kind, Side, KINDS};
-use judge::read::normalised;
-use osdp::command::{self as cmd, Command, CommandCode};
-use osdp::reply::{self as rep, Reply, ReplyCode};
+use judge::kinds::{Kind, KINDS};
 use std::hint::black_box;
+use std::process::exit;
 use std::time::{Duration, Instant};
 
 // The second binary has 32 bytes more in front of all other code, so that a loop that crosses a 64-byte line in one does not in the other.
@@ -21,187 +25,183 @@ extern "C" {
 const ROUNDS: usize = 21;
 const BATCH: Duration = Duration::from_micros(80);
 
-type Call = fn(u8, &[u8], &mut [u8]) -> i32;
+/// How many bytes behind the output are looked at.
+const BEHIND: usize = 64;
+/// What they hold, and the output's bytes where a call has to write none.
+const UNTOUCHED: u8 = 0xA5;
 
-/// A linked library, by the names of its four calls.
-macro_rules! library {
-    ($check_command:ident $check_reply:ident $normalise_command:ident $normalise_reply:ident) => {
-        use crate::{Call, Side};
-
-        extern "C" {
-            fn $check_command(code: u8, payload: *const u8, payload_len: usize) -> i32;
-            fn $check_reply(code: u8, payload: *const u8, payload_len: usize) -> i32;
-            fn $normalise_command(code: u8, payload: *const u8, payload_len: usize, out: *mut u8, out_len: usize) -> i32;
-            fn $normalise_reply(code: u8, payload: *const u8, payload_len: usize, out: *mut u8, out_len: usize) -> i32;
-        }
-
-        /// Check and normalise.
-        pub fn calls(side: Side) -> [Call; 2] {
-            match side {
-                Side::Command => [
-                    |code, p, _| unsafe { $check_command(code, p.as_ptr(), p.len()) },
-                    |code, p, out| unsafe { $normalise_command(code, p.as_ptr(), p.len(), out.as_mut_ptr(), out.len()) },
-                ],
-                Side::Reply => [
-                    |code, p, _| unsafe { $check_reply(code, p.as_ptr(), p.len()) },
-                    |code, p, out| unsafe { $normalise_reply(code, p.as_ptr(), p.len(), out.as_mut_ptr(), out.len()) },
-                ],
-            }
-        }
-    };
+struct Case {
+    kind: &'static Kind,
+    payload: Vec<u8>,
+    calls: Vec<Call>,
 }
 
-mod built {
-    library!(osdp_check_command osdp_check_reply osdp_normalise_command osdp_normalise_reply);
-}
+impl Case {
+    fn new(kind: &'static Kind, payload: Vec<u8>) -> Case {
+        let calls = calls(kind, &payload);
+        Case { kind, payload, calls }
+    }
 
-#[cfg(beside)]
-mod beside {
-    library!(beside_osdp_check_command beside_osdp_check_reply beside_osdp_normalise_command beside_osdp_normalise_reply);
-}
-
-// The Rust by code byte, like the C calls.
-
-fn decode_command(code: u8, p: &[u8], _: &mut [u8]) -> i32 {
-    black_box(&CommandCode::from_byte(code).and_then(|c| Command::decode(c, p))).is_ok() as i32
-}
-
-fn decode_reply(code: u8, p: &[u8], _: &mut [u8]) -> i32 {
-    black_box(&ReplyCode::from_byte(code).and_then(|c| Reply::decode(c, p))).is_ok() as i32
-}
-
-fn again_command(code: u8, p: &[u8], _: &mut [u8]) -> i32 {
-    black_box(&CommandCode::from_byte(code).and_then(|c| Command::decode(c, p)).and_then(|r| r.encode_data())).is_ok() as i32
-}
-
-fn again_reply(code: u8, p: &[u8], _: &mut [u8]) -> i32 {
-    black_box(&ReplyCode::from_byte(code).and_then(|c| Reply::decode(c, p)).and_then(|r| r.encode_data())).is_ok() as i32
-}
-
-/// The Rust of one kind alone: decode, and decode and encode.
-macro_rules! of_type {
-    ($T:ty) => {
-        (
-            |_: u8, p: &[u8], _: &mut [u8]| black_box(&<$T>::decode(p)).is_ok() as i32,
-            |_: u8, p: &[u8], _: &mut [u8]| black_box(&<$T>::decode(p).and_then(|r| r.encode())).is_ok() as i32,
-        )
-    };
-}
-
-fn of_kind(k: &Kind) -> (Call, Call) {
-    match k.name {
-        "LED" => of_type!(cmd::LedControl),
-        "OUT" => of_type!(cmd::OutputControl),
-        "TEXT" => of_type!(cmd::Text),
-        "BIOREAD" => of_type!(cmd::BioRead),
-        "BIOMATCH" => of_type!(cmd::BioMatch),
-        "FILETRANSFER" => of_type!(cmd::FileTransfer),
-        "MFG" => of_type!(cmd::Mfg),
-        "RAW" => of_type!(rep::Raw),
-        "FMT" => of_type!(rep::Fmt),
-        "BIOREADR" => of_type!(rep::BioReadR),
-        "BIOMATCHR" => of_type!(rep::BioMatchR),
-        "NAK" => of_type!(rep::Nak),
-        "XRD" => of_type!(rep::Xrd),
-        other => panic!("which type of the original is {other}?"),
+    fn named(&self, call: &Call, what: String) -> String {
+        format!("{}, {} bytes, {}: {what}", self.kind.name, self.payload.len(), call.name)
     }
 }
 
-fn copy(_: u8, p: &[u8], out: &mut [u8]) -> i32 {
-    out[..p.len()].copy_from_slice(p);
-    0
+/// Payload and output of a call.
+struct Memory {
+    payloads: Vec<u8>,
+    outputs: Vec<u8>,
 }
 
-/// A call of nothing: its time, with that of the loop that measures, is subtracted from every other time.
-fn nothing(_: u8, _: &[u8], _: &mut [u8]) -> i32 {
-    0
+impl Memory {
+    /// Another place in its page each round: a copy is slow if source and target have nearly the same place in their pages.
+    fn place(&mut self, p: &[u8], round: usize) -> (&[u8], &mut [u8]) {
+        let (from, to) = (16 * (37 * round % 256), 16 * (91 * round % 256));
+        self.payloads[from..][..p.len()].copy_from_slice(p);
+        (&self.payloads[from..][..p.len()], &mut self.outputs[to..][..p.len() + BEHIND])
+    }
 }
 
-fn calls(k: &Kind) -> Vec<(&'static str, Call)> {
-    let (decode, again) = of_kind(k);
-    let [check, normalise] = built::calls(k.side);
-    let [decode_by_code, again_by_code]: [Call; 2] = match k.side {
-        Side::Command => [decode_command, again_command],
-        Side::Reply => [decode_reply, again_reply],
+/// Makes every byte differ from what the call has to leave there, unless it has to leave it as it is.
+fn spoil(call: &Call, room: &mut [u8]) {
+    room.fill(UNTOUCHED);
+    room.iter_mut().zip(&call.written).for_each(|(b, w)| *b = !w);
+}
+
+/// What is wrong with the output of a call, and with the bytes behind it, `room` having been spoiled before.
+fn wrong_output(call: &Call, room: &[u8]) -> Option<String> {
+    let want = |i| call.written.get(i).copied().unwrap_or(UNTOUCHED);
+    let at = (0..room.len()).find(|&i| room[i] != want(i))?;
+    let place = match at.checked_sub(room.len() - BEHIND) {
+        None => format!("byte {at} of"),
+        Some(behind) => format!("byte {behind} behind"),
     };
-    let all: &[(&str, Call)] = &[
-        ("check", check),
-        #[cfg(beside)]
-        ("check-beside", beside::calls(k.side)[0]),
-        ("decode", decode_by_code),
-        ("decode-of-type", decode),
-        ("normalise", normalise),
-        #[cfg(beside)]
-        ("normalise-beside", beside::calls(k.side)[1]),
-        ("decode+encode", again_by_code),
-        ("decode+encode-of-type", again),
-        ("memcpy", copy),
-        ("nothing", nothing),
-    ];
-    all.to_vec()
+    Some(format!("{place} the output is {:#04x}, not {:#04x}", room[at], want(at)))
 }
 
-/// A payload that normalising leaves as it is.
-fn payload(k: &Kind, n: usize, r: &mut Chance) -> Vec<u8> {
-    let mut p = k.good(n, r);
-    if let Some(first) = k.kept_after() {
-        p[0] = first;
-    }
-    normalised(k.side, k.code, &p).ok().expect("a good payload")
-}
-
-/// f is known only at run time, so that each call is made.
-#[inline(never)]
-fn time(f: Call, code: u8, p: &[u8], out: &mut [u8], times: u32) -> Duration {
-    let start = Instant::now();
-    let mut sum = 0i32;
-    for _ in 0..times {
-        sum = sum.wrapping_add(f(code, p, out));
-    }
-    black_box(sum);
-    start.elapsed()
+fn made(f: Run, code: u8, p: &[u8], out: &mut [u8]) -> i32 {
+    f(code, p, out)
 }
 
 /// One call, and nothing else: what callgrind collects.
 #[no_mangle]
 #[inline(never)]
-pub fn measured(f: Call, code: u8, p: &[u8], out: &mut [u8]) -> i32 {
+pub fn measured(f: Run, code: u8, p: &[u8], out: &mut [u8]) -> i32 {
     black_box(f(code, p, out))
 }
 
-fn count(k: &Kind, p: &[u8]) {
-    let mut out = vec![0; p.len()];
-    for (name, f) in calls(k) {
-        f(k.code, p, &mut out);
-        measured(f, k.code, p, &mut out);
-        println!("{}\t{}\t{name}", k.name, p.len());
+/// Makes a call, by one of the two functions above, and answers what is wrong with it.
+fn wrong(call: &Call, make: fn(Run, u8, &[u8], &mut [u8]) -> i32, code: u8, p: &[u8], room: &mut [u8]) -> Option<String> {
+    spoil(call, room);
+    let answer = make(call.run, code, p, &mut room[..p.len()]);
+    if answer == call.answer {
+        wrong_output(call, room)
+    } else {
+        Some(format!("the answer is {answer}, not {}", call.answer))
     }
 }
 
-/// `place` and `room` are for payload and output.
-fn compare_times(k: &Kind, p: &[u8], place: &mut [u8], room: &mut [u8]) {
-    let (calls, n) = (calls(k), p.len());
-    let how_often = |&(_, f): &(&str, Call)| {
-        let mut out = vec![0; n];
-        time(f, k.code, p, &mut out, 20);
-        let one = (time(f, k.code, p, &mut out, 20).as_nanos() / 20).max(1);
-        (BATCH.as_nanos() / one).clamp(3, 100_000) as u32
+/// What is wrong with each call in so many rounds, by its first wrong round.
+fn faults(case: &Case, memory: &mut Memory, rounds: usize) -> Vec<String> {
+    let first_wrong = |call: &Call| {
+        (0..rounds)
+            .find_map(|round| {
+                let (p, room) = memory.place(&case.payload, round);
+                wrong(call, made, case.kind.code, p, room)
+            })
+            .map(|what| case.named(call, what))
     };
-    let times: Vec<u32> = calls.iter().map(how_often).collect();
-    let mut took = vec![Vec::new(); calls.len()];
+    case.calls.iter().filter_map(first_wrong).collect()
+}
+
+fn stop_at(faults: Vec<String>, when: &str) {
+    faults.iter().for_each(|fault| eprintln!("bench: {fault}"));
+    if !faults.is_empty() {
+        eprintln!("bench: {} of the calls are wrong {when}", faults.len());
+        exit(1);
+    }
+}
+
+/// How long so many calls take, and the sum of their answers. f is known only at run time, so that each call is made.
+#[inline(never)]
+fn time(f: Run, code: u8, p: &[u8], out: &mut [u8], times: u32) -> (Duration, i32) {
+    let start = Instant::now();
+    let mut sum = 0i32;
+    for _ in 0..times {
+        sum = sum.wrapping_add(f(code, p, out));
+    }
+    let sum = black_box(sum);
+    (start.elapsed(), sum)
+}
+
+/// How many calls make a batch.
+fn how_often(call: &Call, code: u8, p: &[u8], out: &mut [u8]) -> u32 {
+    time(call.run, code, p, out, 20);
+    let one = (time(call.run, code, p, out, 20).0.as_nanos() / 20).max(1);
+    (BATCH.as_nanos() / one).clamp(3, 100_000) as u32
+}
+
+/// What is wrong with a round of a call: the sum of its answers, and in the last round the output, which was spoiled before.
+fn wrong_round(call: &Call, times: u32, sum: i32, last: bool, room: &[u8]) -> Option<String> {
+    if sum != call.answer.wrapping_mul(times as i32) {
+        return Some(format!("its {times} answers of a round are not all {}", call.answer));
+    }
+    let left = if last { wrong_output(call, room) } else { None };
+    left.map(|what| format!("after the last round {what}"))
+}
+
+/// Prints the medians, and answers what was wrong.
+fn compare_times(case: &Case, memory: &mut Memory) -> Vec<String> {
+    let (code, n) = (case.kind.code, case.payload.len());
+    let (p, room) = memory.place(&case.payload, 0);
+    let times: Vec<u32> = case.calls.iter().map(|call| how_often(call, code, p, &mut room[..n])).collect();
+    let mut took = vec![Vec::new(); times.len()];
+    let mut faults = vec![None; times.len()];
     for round in 0..ROUNDS {
-        // another place in its page each round: a copy is slow if source and target have nearly the same place in their pages
-        let (from, to) = (16 * (37 * round % 256), 16 * (91 * round % 256));
-        place[from..][..n].copy_from_slice(p);
-        for (i, &(_, f)) in calls.iter().enumerate() {
-            let all = time(f, k.code, &place[from..][..n], &mut room[to..][..n], times[i]);
+        let last = round == ROUNDS - 1;
+        let (p, room) = memory.place(&case.payload, round);
+        for (i, call) in case.calls.iter().enumerate() {
+            if last {
+                spoil(call, room);
+            }
+            let (all, sum) = time(call.run, code, p, &mut room[..n], times[i]);
             took[i].push(all.as_nanos() as f64 / times[i] as f64);
+            faults[i] = faults[i].take().or_else(|| wrong_round(call, times[i], sum, last, room));
         }
     }
-    for (&(name, _), took) in calls.iter().zip(&mut took) {
+    for (call, took) in case.calls.iter().zip(&mut took) {
         took.sort_by(f64::total_cmp);
-        println!("{}\t{n}\t{name}\t{:.2}", k.name, took[ROUNDS / 2]);
+        println!("{}\t{n}\t{}\t{:.2}", case.kind.name, call.name, took[ROUNDS / 2]);
     }
+    case.calls.iter().zip(faults).filter_map(|(call, fault)| Some(case.named(call, fault?))).collect()
+}
+
+/// Calls each twice and measures the second call, and answers what was wrong.
+fn count(case: &Case, memory: &mut Memory) -> Vec<String> {
+    let mut faults = Vec::new();
+    let (p, room) = memory.place(&case.payload, 0);
+    for call in &case.calls {
+        for make in [made, measured] {
+            faults.extend(wrong(call, make, case.kind.code, p, room).map(|what| case.named(call, what)));
+        }
+        println!("{}\t{}\t{}", case.kind.name, p.len(), call.name);
+    }
+    faults
+}
+
+/// Payloads that normalising leaves as they are.
+fn timed() -> Vec<Case> {
+    let mut r = Chance::new(1);
+    let mut case = |k: &'static Kind, n| {
+        assert!(k.near(n) == n, "{} has no {n} bytes", k.name);
+        Case::new(k, k.clean(n, &mut r))
+    };
+    KINDS.iter().flat_map(|k| k.timed.iter().map(move |&n| (k, n))).map(|(k, n)| case(k, n)).collect()
+}
+
+/// Every kind refuses the empty payload, so that a call that accepts everything is found out.
+fn refused() -> Vec<Case> {
+    KINDS.iter().map(|k| Case::new(k, Vec::new())).collect()
 }
 
 fn main() {
@@ -209,13 +209,12 @@ fn main() {
     // glibc gives freed memory back to the system, at a high cost to the Rust, until a block of this size has been freed once.
     drop(black_box(vec![0u8; 16 << 20]));
     let counts = std::env::args().nth(1).is_some_and(|a| a == "count");
-    let mut r = Chance::new(1);
-    let [mut place, mut room] = [vec![0; 80_000], vec![0; 80_000]];
-    for k in KINDS.iter() {
-        for &n in &k.timed {
-            assert!(k.near(n) == n, "{} has no {n} bytes", k.name);
-            let p = payload(k, n, &mut r);
-            if counts { count(k, &p) } else { compare_times(k, &p, &mut place, &mut room) }
-        }
-    }
+    let mut memory = Memory { payloads: vec![0; 80_000], outputs: vec![0; 80_000] };
+    let (timed, refused) = (timed(), refused());
+    let rounds = if counts { 1 } else { ROUNDS };
+    let before = timed.iter().chain(&refused).flat_map(|case| faults(case, &mut memory, rounds)).collect();
+    stop_at(before, "and nothing is measured");
+    let measure = if counts { count } else { compare_times };
+    let after = timed.iter().flat_map(|case| measure(case, &mut memory)).collect();
+    stop_at(after, "in what was measured");
 }

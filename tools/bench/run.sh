@@ -1,25 +1,33 @@
 #!/usr/bin/env bash
-# Measures the C calls against the original Rust: run.sh [--docs] [--beside ARCHIVE] [SOURCES]
+# Measures the C calls and the readers against the original Rust: run.sh [--docs] [--beside ARCHIVE] [SOURCES] | run.sh --selftest [SOURCES]
 # SOURCES is as for tools/oracle/build.sh, which builds the original. Writes build/bench/PERFORMANCE.md and performance.svg, and with --docs
-# copies both to docs/. With --beside another build of the library is measured in the same rounds. RUNS=NUMBER sets the number of runs (15).
+# copies both to docs/ if every target is met. With --beside another build of the library is measured in the same rounds. RUNS=NUMBER sets the
+# number of runs (15). Exits with 1 if an answer or a byte is wrong, and then measures nothing, or if a target is missed. With --selftest tries
+# whether that is so.
 set -eu
 here=$(cd "$(dirname "$0")" && pwd)
 root=$(cd "$here/../.." && pwd)
+[[ ${ALONE-} == "$root"/* ]] || exec "$root/tools/alone.py" "$0" "$@"
 lib=$root/target/staticlib/libosdp.a
+readers=$root/target/staticlib/libbench_read.a
 out=$root/build/bench
 docs=
 beside=
+selftest=
 while true; do
     case ${1-} in
     --docs) docs=1; shift ;;
     --beside) beside=$2; shift 2 ;;
+    --selftest) selftest=1; shift ;;
     *) break ;;
     esac
 done
-for archive in "$lib" ${beside:+"$beside"}; do
-    [ -f "$archive" ] || { echo "$0: $archive is not there: make lib builds the library" >&2; exit 1; }
+BESIDE=$beside "$root/tools/arguments.py" RUNS BESIDE
+for archive in "$lib" "$readers"; do
+    [ -f "$archive" ] || { echo "$0: $archive is not there: make bench builds it" >&2; exit 1; }
 done
 "$root/tools/oracle/build.sh" ${1:+"$1"}
+[ -z "$selftest" ] || exec "$here/selftest.py" "$lib" "$readers"
 rm -rf "$out"
 mkdir -p "$out/counts"
 
@@ -32,12 +40,8 @@ if [ -n "$beside" ]; then
 fi
 
 # Two binaries, which differ only in the place of their code.
-build() {
-    rustc --edition 2021 -C opt-level=3 -C codegen-units=1 -D warnings --check-cfg 'cfg(shifted, beside)' --crate-name bench \
-        -L "$root/build/oracle" --extern osdp --extern judge -C link-arg="$lib" "${other[@]}" "$@" "$here/bench.rs"
-}
-build -o "$out/bench-1"
-build -o "$out/bench-2" --cfg shifted
+"$here/build.sh" "$out/bench-1" "$lib" "$readers" "${other[@]}"
+"$here/build.sh" "$out/bench-2" "$lib" "$readers" "${other[@]}" --cfg shifted
 for run in $(seq "${RUNS:-15}"); do
     for place in 1 2; do
         "$out/bench-$place" >"$out/place-$place-run-$run.tsv"
@@ -51,8 +55,4 @@ if command -v valgrind >/dev/null; then
 else
     echo "$0: no valgrind here: instructions are not counted" >&2
 fi
-python3 "$here/report.py" "$out"
-if [ -n "$docs" ]; then
-    cp "$out/PERFORMANCE.md" "$out/performance.svg" "$root/docs/"
-    echo "written: docs/PERFORMANCE.md docs/performance.svg"
-fi
+exec python3 "$here/report.py" "$out" ${docs:+"$root/docs"}

@@ -1,10 +1,12 @@
 #!/usr/bin/env python3
 """Runs inspect on inputs of every sort: inputs.py PROGRAM
 
-Bad lines and bad files, each with what inspect has to say of it; every code byte, since a code of the tables has to have a name (tools/names.py
-shows that it is the Rust's); payloads of the greatest lengths; and, for its speed, many short lines.
+Bad lines and bad files; every code byte of both sides, with the name that its code table has (crates/codes/specs); payloads of the greatest
+lengths; and, also for its speed, the lines of the sample many times over. Of each run all that inspect says, on both outputs, and its exit
+status are compared. inspect says on standard error what is wrong with a file, and ends with status 0 whatever it was given.
 Exits with 1 if something differs.
 """
+import os
 import re
 import subprocess
 import sys
@@ -12,101 +14,191 @@ import tempfile
 import time
 from pathlib import Path
 
+sys.dont_write_bytecode = True
 top = Path(__file__).resolve().parent.parent.parent
-program = sys.argv[1]
-failures = 0
-runs = 0
+sys.path.insert(0, str(top / "tools"))
+import names
+from kinds import KINDS
+
+MOST_SECONDS = 60
+ENDED = 0
+GOOD = "reply B1 05"
+GOOD_SHOWN = ": reply B1 XRD, length 1\n  mode 5\n  payload:\n"
 
 
-def inspect(text=b"", args=()):
-    ran = subprocess.run([program, *args], input=text, capture_output=True)
-    return ran.stdout.decode("ascii"), ran.stderr.decode("ascii")
+def counts(read=0, refused=0, bad=0):
+    return f"read {read}, refused {refused}, bad lines {bad}\n"
 
 
-def expect(what, got, wanted):
-    global failures, runs
-    runs += 1
-    if got != wanted:
-        failures += 1
-        print(f"{what}:\n  said   {got!r}\n  wanted {wanted!r}")
+def differing(got, wanted):
+    """where two texts differ first, and what they have from there on"""
+    if isinstance(got, str) and isinstance(wanted, str):
+        at = len(os.path.commonprefix([got, wanted]))
+        return f"said   {got[at:at + 80]!r}, from character {at} on\n    wanted {wanted[at:at + 80]!r}"
+    return f"said   {got!r}\n    wanted {wanted!r}"
 
 
-def bad(text, message):
-    """One bad line, and a good one after it that is still shown."""
-    said, _ = inspect(text + b"\nreply B1 05\n")
-    expect(text[:40], said, f"line 1, {message}\nline 2: reply B1 XRD, length 1\n  mode 5\n  payload:\nread 1, refused 0, bad lines 1\n")
+class Trials:
+    def __init__(self, program):
+        self.program, self.runs, self.failures = program, 0, 0
+
+    def inspect(self, text=b"", args=()):
+        """standard output, standard error and exit status, which is below 0 for a signal"""
+        try:
+            ran = subprocess.run([self.program, *args], input=text, capture_output=True, timeout=MOST_SECONDS)
+        except subprocess.TimeoutExpired:
+            return "", "", f"none after {MOST_SECONDS} s"
+        return ran.stdout.decode("ascii", "backslashreplace"), ran.stderr.decode("ascii", "backslashreplace"), ran.returncode
+
+    def expect(self, what, out, err="", status=ENDED, text=b"", args=()):
+        """One run."""
+        said, complained, ended = self.inspect(text, args)
+        self.runs += 1
+        wrong = [f"  {name}:\n    {differing(got, wanted)}" for name, got, wanted in
+                 (("output", said, out), ("standard error", complained, err), ("exit status", ended, status)) if got != wanted]
+        if wrong:
+            self.failures += 1
+            print("\n".join([f"{what}:", *wrong]))
 
 
-WORD = "column 1: the line has to begin with command or reply, not with"
-CODE = "the code byte has to have two hex digits"
-HALF = "half a byte, its second hex digit is missing"
-for text, message in [
-    (b"commands 69", f"{WORD} commands"),
-    (b"COMMAND 69", f"{WORD} COMMAND"),
-    (b"xcommand 69", f"{WORD} xcommand"),
-    (b"replycommand 69", f"{WORD} replycommand"),
-    (b"\0command 69", f"{WORD} .command"),
-    (b"\0reply 69", f"{WORD} .reply"),
-    (b"comm\0and 69", f"{WORD} comm.and"),
-    (b"69 00", f"{WORD} 69"),
-    (b"comm", f"{WORD} comm"),
-    (b"command#69", f"{WORD} command#69"),
-    (b"c" * 20 + b" 69", f"{WORD} " + "c" * 20),
-    (b"c" * 21 + b" 69", f"{WORD} " + "c" * 20 + " (cut)"),
-    (b"c" * 30 + b" 69", f"{WORD} " + "c" * 20 + " (cut)"),
-    (b" \t69", f"{WORD} 69".replace("column 1", "column 3")),
-    (b"command", "column 8: no code byte after the word"),
-    (b"reply  # 50", "column 8: no code byte after the word"),
-    (b"command 6", f"column 10: {CODE}"),
-    (b"command 690 00", f"column 11: {CODE}"),
-    (b"command 6g", f"column 10: {CODE}"),
-    (b"command 69#", f"column 11: {CODE}"),
-    (b"command 69 0", f"column 13: {HALF}"),
-    (b"command 69 00 0 0", f"column 16: {HALF}"),
-    (b"command 69 0x00", "column 13: not a hex digit"),
-    (b"command 69 00,00", "column 14: not a hex digit"),
-    (b"command 69 \xff", "column 12: not a hex digit"),
-    (b"command 80 " + b"00" * 65548, "column 131107: payload of more than 65,547 bytes"),
-]:
-    bad(text, message)
+def bad_lines():
+    """A bad line, and what inspect has to say of it."""
+    word = "column 1: the line has to begin with command or reply, not with"
+    code = "the code byte has to have two hex digits"
+    half = "half a byte, its second hex digit is missing"
+    return [
+        (b"commands 69", f"{word} commands"),
+        (b"COMMAND 69", f"{word} COMMAND"),
+        (b"xcommand 69", f"{word} xcommand"),
+        (b"replycommand 69", f"{word} replycommand"),
+        (b"\0command 69", f"{word} .command"),
+        (b"\0reply 69", f"{word} .reply"),
+        (b"comm\0and 69", f"{word} comm.and"),
+        (b"69 00", f"{word} 69"),
+        (b"comm", f"{word} comm"),
+        (b"command#69", f"{word} command#69"),
+        (b"c" * 20 + b" 69", f"{word} " + "c" * 20),
+        (b"c" * 21 + b" 69", f"{word} " + "c" * 20 + " (cut)"),
+        (b"c" * 30 + b" 69", f"{word} " + "c" * 20 + " (cut)"),
+        (b" \t69", f"{word} 69".replace("column 1", "column 3")),
+        (b"command", "column 8: no code byte after the word"),
+        (b"reply  # 50", "column 8: no code byte after the word"),
+        (b"command 6", f"column 10: {code}"),
+        (b"command 690 00", f"column 11: {code}"),
+        (b"command 6g", f"column 10: {code}"),
+        (b"command 69#", f"column 11: {code}"),
+        (b"command 69 0", f"column 13: {half}"),
+        (b"command 69 00 0 0", f"column 16: {half}"),
+        (b"command 69 0x00", "column 13: not a hex digit"),
+        (b"command 69 00,00", "column 14: not a hex digit"),
+        (b"command 69 \xff", "column 12: not a hex digit"),
+        (b"command 80 " + b"00" * 65548, "column 131107: payload of more than 65,547 bytes"),
+    ]
 
-EMPTY = "no payload in the input\n"
-with tempfile.TemporaryDirectory() as folder:
-    name = folder + "/lines"
-    Path(name).write_bytes(b"reply B1 05")
-    expect("a file without a last line end", inspect(args=[name]), ("line 1: reply B1 XRD, length 1\n  mode 5\n  payload:\nread 1, refused 0, bad lines 0\n", ""))
-    Path(name).write_bytes(b"")
-    expect("an empty file", inspect(args=[name]), (EMPTY, ""))
-    expect("a folder", inspect(args=[folder]), (EMPTY, "inspect: cannot read: Is a directory\n"))
-    expect("a missing file", inspect(args=[name + "0"]), ("", f"inspect: cannot open {name}0: No such file or directory\n"))
-expect("a name that is too long", inspect(args=["x" * 5000]), ("", "inspect: bad file name: File name too long\n"))
-expect("two files", inspect(args=["a", "b"]), ("", "inspect: one file at most; inspect --help says more\n"))
-expect("comments and blank lines", inspect(b"# x\n\n \t\r\n   # y\n"), (EMPTY, ""))
-expect("help", inspect(args=["--help"])[0][:22], "usage: inspect [FILE]\n")
-spelt = inspect(b"reply 50 00 00 1A 00 12 34 56 80\n")
-for other in [b"reply 50 00001a0012345680", b"\treply\t50\t00001A00 12345680\r\n", b"  reply 50  0000 1A00123456 80 # tag"]:
-    expect(other, inspect(other), spelt)
 
-# a title has a name exactly if its code is in a table
-said, _ = inspect("".join(f"{side} {code:02X}\n" for side in ("command", "reply") for code in range(256)).encode())
-expect("codes without a name", len(re.findall(r"line \d+: \w+ .., length 0\n  refused, row [12] ", said)), 512 - 26 - 25)
-expect("codes with a name", len(re.findall(r"line \d+: \w+ .. [A-Z]+, length 0\n(?!  refused, row [12] )", said)), 26 + 25)
+def help_text():
+    """what inspect prints, by its source"""
+    literal = re.search(r'b"(usage: .*?)"', (top / "crates/inspect/src/main.rt").read_text(encoding="utf-8"), re.S)[1]
+    return re.sub(r"\\\n\s*", "", literal).replace("\\n", "\n")
 
-said, _ = inspect(b"command 80 " + b"00" * 65546 + b"\ncommand 80 " + b"00 " * 65547)
-expect("the longest payload", said.splitlines()[2], "  payload:" + " 00" * 65543)
-expect("a payload that is too long", said.splitlines()[3:], ["line 2: command 80 MFG, length 65547", "  refused, row 28 (65546, 65547): payload too long (longest, got)", "read 1, refused 1, bad lines 0"])
-said, _ = inspect(b"command 68 " + b"03050A00" * 16386)
-expect("the last record", said.splitlines()[-2:], ["  record 16385 at offset 65540: output 3, code 5 TemporaryOnResume, timer 10", "read 1, refused 0, bad lines 0"])
-said, _ = inspect(b"reply 50 0000FFFF" + b"A5" * 8192)
-expect("the most bits", said.splitlines()[2], "  bits: " + ("10100101" * 8192)[:65535])
 
-short = [line for line in (top / "crates/inspect/stdin").read_bytes().splitlines(True) if line.startswith((b"command", b"reply"))]
-many = b"".join(short) * (300000 // len(short))
-start = time.monotonic()
-said, _ = inspect(many)
-seconds = time.monotonic() - start
-lines = many.count(b"\n")
-counts = [int(n) for n in re.findall(r"\d+", said.splitlines()[-1])]
-expect("many lines", sum(counts), lines)
-print(f"{runs} runs, {failures} differ; {lines} short lines, {lines / seconds:,.0f} a second")
-sys.exit(1 if failures else 0)
+def lines_and_files(t):
+    for text, message in bad_lines():
+        # a good line after a bad one is still shown
+        t.expect(text[:40], f"line 1, {message}\nline 2{GOOD_SHOWN}{counts(read=1, bad=1)}", text=text + f"\n{GOOD}\n".encode())
+    empty = "no payload in the input\n"
+    with tempfile.TemporaryDirectory() as folder:
+        name = folder + "/lines"
+        Path(name).write_bytes(GOOD.encode())
+        t.expect("a file without a last line end", f"line 1{GOOD_SHOWN}{counts(read=1)}", args=[name])
+        Path(name).write_bytes(b"")
+        t.expect("an empty file", empty, args=[name])
+        t.expect("a folder", empty, "inspect: cannot read: Is a directory\n", args=[folder])
+        t.expect("a missing file", "", f"inspect: cannot open {name}0: No such file or directory\n", args=[name + "0"])
+    t.expect("a name that is too long", "", "inspect: bad file name: File name too long\n", args=["x" * 5000])
+    t.expect("two files", "", "inspect: one file at most; inspect --help says more\n", args=["a", "b"])
+    t.expect("comments and blank lines", empty, text=b"# x\n\n \t\r\n   # y\n")
+    t.expect("help", help_text(), args=["--help"])
+    raw = "line 1: reply 50 RAW, length 8\n  reader 0, format_code 0, bit_count 26\n  bits: 00010010001101000101011010\n" + counts(read=1)
+    for text in (b"reply 50 00 00 1A 00 12 34 56 80\n", b"reply 50 00001a0012345680", b"\treply\t50\t00001A00 12345680\r\n",
+                 b"  reply 50  0000 1A00123456 80 # tag"):
+        t.expect(text, raw, text=text)
+
+
+def code_names():
+    """{(side, code byte): name in capitals}, from the definitions of the code tables"""
+    text = names.source(top / "crates/codes/src/lib.rt")
+    found = {}
+    for side, enum, how_many in (("command", "CommandCode", 26), ("reply", "ReplyCode", 25)):
+        table = [(name, byte) for name, byte in names.definition(top / "crates/codes", text, enum)[0] if name != names.OTHER]
+        found |= {(side, int(byte, 16)): name.upper() for name, byte in table}
+        if sum(s == side for s, _ in found) != how_many:
+            sys.exit(f"crates/codes/specs does not have the {how_many} codes of {enum}")
+    return found
+
+
+def refusal_of_nothing(side, code, known):
+    """what is said of an empty payload"""
+    kind = next((k for k in KINDS if (k.side, k.code) == (side, code)), None)
+    if (side, code) not in known:
+        return f"row {1 if side == 'command' else 2} (0, 0): {side} byte in no table"
+    if kind is None:
+        return "row 14 (0, 0): code known, payload not carried"
+    if kind.step > 1:
+        return f"row 5 ({kind.step}, 0): empty or not a multiple of the record length (record length, got)"
+    if kind.least == kind.most:
+        return f"row 3 ({kind.least}, 0): not the exact length (expected, got)"
+    return f"row 4 ({kind.least}, 0): below the least length (least, got)"
+
+
+def every_code(t):
+    known = code_names()
+    codes = [(side, code) for side in ("command", "reply") for code in range(256)]
+    shown = ""
+    for number, (side, code) in enumerate(codes, 1):
+        name = f" {known[side, code]}" if (side, code) in known else ""
+        shown += f"line {number}: {side} {code:02X}{name}, length 0\n  refused, {refusal_of_nothing(side, code, known)}\n"
+    t.expect("every code", shown + counts(refused=len(codes)), text="".join(f"{side} {code:02X}\n" for side, code in codes).encode())
+    return len(codes)
+
+
+def long_payloads(t):
+    longest = "line 1: command 80 MFG, length 65546\n  oui 00 00 00\n  payload:" + " 00" * 65543 + "\n"
+    longer = "line 2: command 80 MFG, length 65547\n  refused, row 28 (65546, 65547): payload too long (longest, got)\n"
+    t.expect("the longest payload, and a longer one", longest + longer + counts(read=1, refused=1),
+             text=b"command 80 " + b"00" * 65546 + b"\ncommand 80 " + b"00 " * 65547)
+    outputs = "".join(f"  record {k} at offset {4 * k}: output 3, code 5 TemporaryOnResume, timer 10\n" for k in range(16386))
+    t.expect("the longest list", f"line 1: command 68 OUT, length 65544\n{outputs}{counts(read=1)}", text=b"command 68 " + b"03050A00" * 16386)
+    bits = ("10100101" * 8192)[:65535]
+    t.expect("the most bits", f"line 1: reply 50 RAW, length 8196\n  reader 0, format_code 0, bit_count 65535\n  bits: {bits}\n{counts(read=1)}",
+             text=b"reply 50 0000FFFF" + b"A5" * 8192)
+
+
+def many_lines(t):
+    """The sample's lines many times over: how many, and how many of them in a second."""
+    lines = (top / "crates/inspect/stdin").read_bytes().splitlines()
+    shown = re.findall(r"^line (\d+)([:,].*\n(?:  .*\n)*)", (top / "crates/inspect/stdout").read_text(encoding="ascii"), re.M)
+    times = 300000 // len(shown)
+    text = b"".join(lines[int(number) - 1] + b"\n" for number, _ in shown) * times
+    said = [words for _, words in shown] * times
+    bad = sum(words.startswith(",") for words in said)
+    refused = sum("\n  refused, " in words for words in said)
+    wanted = "".join(f"line {number}{words}" for number, words in enumerate(said, 1)) + counts(len(said) - bad - refused, refused, bad)
+    start = time.monotonic()
+    t.expect("many lines", wanted, text=text)
+    return len(said), len(said) / (time.monotonic() - start)
+
+
+def main():
+    if not Path(sys.argv[1]).is_file():
+        sys.exit(f"no program {sys.argv[1]}: make run builds it")
+    t = Trials(sys.argv[1])
+    lines_and_files(t)
+    codes = every_code(t)
+    long_payloads(t)
+    lines, speed = many_lines(t)
+    print(f"inputs: {t.runs} runs of inspect, {codes} codes and {lines} short lines among them ({speed:,.0f} lines a second): {t.failures} differ")
+    sys.exit(1 if t.failures else 0)
+
+
+main()

@@ -6,7 +6,7 @@ pub struct Chance(u64);
 
 impl Chance {
     pub fn new(seed: u64) -> Chance {
-        Chance(seed.wrapping_mul(0x9E37_79B9_7F4A_7C15) | 1)
+        Chance(seed.wrapping_mul(0x9E37_79B9_7F4A_7C15).max(1))
     }
 
     fn next(&mut self) -> u64 {

@@ -71,13 +71,24 @@ impl Field {
         }
     }
 
+    /// The highest number that a field for the tail's length can have.
+    pub fn highest(self) -> Option<usize> {
+        match self {
+            Field::Length(_) | Field::Count(_) | Field::Bits => Some((1 << (8 * self.width())) - 1),
+            _ => None,
+        }
+    }
+
+    /// How many bytes the tail has, if this field has the number n.
+    pub fn tail(self, n: usize) -> usize {
+        if let Field::Bits = self { n.div_ceil(8) } else { n }
+    }
+
     /// The most bytes that this field lets the tail have.
     fn most_tail(self) -> Option<usize> {
         match self {
-            Field::Length(n) | Field::Count(n) => Some((1 << (8 * n)) - 1),
-            Field::Bits => Some(0xFFFF_usize.div_ceil(8)),
             Field::Text | Field::Tail | Field::TailAfter(_) => Some(LONGEST),
-            _ => None,
+            _ => Some(self.tail(self.highest()?)),
         }
     }
 }
@@ -126,18 +137,33 @@ impl Kind {
         (least, most)
     }
 
+    /// The fields with their offsets; for a list, in each record.
+    fn places(&self) -> impl Iterator<Item = (usize, Field)> + '_ {
+        let mut end = 0;
+        self.fields.iter().map(move |&f| {
+            end += f.width();
+            (end - f.width(), f)
+        })
+    }
+
     /// Offsets of the bytes that are folded, each with the highest value that is not; for a list, the offsets in each record.
     pub fn limits(&self) -> impl Iterator<Item = (usize, u8)> + '_ {
-        let mut at = 0;
-        self.fields.iter().filter_map(move |f| {
-            at += f.width();
-            if let Field::Folded(highest) = *f { Some((at - 1, highest)) } else { None }
-        })
+        self.places().filter_map(|(at, f)| if let Field::Folded(highest) = f { Some((at, highest)) } else { None })
+    }
+
+    /// Offsets of the bytes of which some values are refused; for a list, the offsets in each record.
+    pub fn codes(&self) -> impl Iterator<Item = usize> + '_ {
+        self.places().filter_map(|(at, f)| if let Field::Code(..) = f { Some(at) } else { None })
     }
 
     /// The first byte that a payload has to have if its tail is not to be cut off.
     pub fn kept_after(&self) -> Option<u8> {
         self.fields.iter().find_map(|f| if let Field::TailAfter(first) = *f { Some(first) } else { None })
+    }
+
+    /// The field for the tail's length, and its offset.
+    pub fn declared(&self) -> Option<(usize, Field)> {
+        self.places().find(|(_, f)| f.highest().is_some())
     }
 
     /// Whether normalising can change a payload.

@@ -1,6 +1,7 @@
 //! Payloads of a kind, drawn by chance.
 use crate::chance::Chance;
 use crate::kinds::{Field, Kind, LONGEST};
+use crate::read::normalised;
 
 /// Bytes at the ends of the code tables, and of printable text.
 const EDGES: [u8; 18] = [0, 1, 2, 3, 4, 5, 6, 7, 8, 9, 10, 0x11, 0x12, 0x1F, 0x20, 0x7E, 0x7F, 0xFF];
@@ -23,6 +24,15 @@ impl Kind {
         let record = if self.step > 1 { self.step } else { n };
         p.chunks_exact_mut(record).for_each(|part| self.set_fields(part, r));
         p
+    }
+
+    /// One that normalising leaves as it is.
+    pub fn clean(&self, n: usize, r: &mut Chance) -> Vec<u8> {
+        let mut p = self.good(n, r);
+        if let Some(first) = self.kept_after() {
+            p[0] = first;
+        }
+        normalised(self.side, self.code, &p).ok().expect("a good payload")
     }
 
     /// Sets the fields that must not have just any value.

@@ -1,15 +1,28 @@
 #!/usr/bin/env bash
 # Compares the library with the answers of the original Rust and of the model, at scale: compare.sh [SOURCES [SCALE [SEED]]]
 # Cases are made, answered and packed here, and replayed by the program vectors, which `rt check vectors` builds. Fails if an answer
-# differs, a row never occurred, or a kind was never read or written.
+# differs, a row never occurred, or a kind was never read or written; if a program ends with another status than 0 or says anything else
+# than it has to; and if the oracle or vectors had another number of cases than were made.
 set -euo pipefail
-here=$(cd "$(dirname "$0")" && pwd)
-root=$(cd "$here/../.." && pwd)
-out=$root/build/oracle
+. "$(dirname "$0")/steps.sh"
 scale=${2:-1000}
 seed=${3:-20261115}
-"$here/build.sh" ${1:+"$1"}
-"$out/oracle" examples <"$here/examples.txt"
-python3 "$here/gen.py" "$scale" "$seed" | "$out/oracle" pack | "$root/target/bin/vectors" >"$out/compared"
-cat "$out/compared"
-grep -qxE '[1-9][0-9]* cases, 0 differ' "$out/compared"
+RUST=${1-} SCALE=$scale SEED=$seed "$root/tools/arguments.py" RUST SCALE SEED
+ready "${1-}"
+start=$SECONDS
+rm -f "$out/lines"
+mkfifo "$out/lines"
+wc -l <"$out/lines" >"$out/made" &
+ended=(0 0 0 0)
+{
+    python3 "$here/gen.py" "$scale" "$seed" | tee "$out/lines" | "$out/oracle" pack | "$root/target/bin/vectors" >"$out/compared" ||
+        ended=("${PIPESTATUS[@]}")
+} 2>"$out/said"
+wait $!
+made=$(<"$out/made")
+if [ "${ended[*]}" != "0 0 0 0" ] || ! tallied "$out/said" "$made" || ! cmp -s "$out/compared" <(echo "$made cases, 0 differ"); then
+    cat "$out/said" "$out/compared" >&2
+    fail "$made cases were made; gen.py, tee, oracle and vectors ended with ${ended[*]}, and said the above"
+fi
+cat "$out/said"
+echo "compare-vectors: $made cases (scale $scale, seed $seed), made, answered and replayed in $((SECONDS - start)) s: 0 differ"

@@ -1,7 +1,7 @@
 //! The oracle: one case a line on standard input.
 //!   oracle          one answer a line
 //!   oracle pack     the cases with their answers, in the vector format
-//!   oracle examples    lines `CASE => WORDS`: whether each answer begins with these words
+//!   oracle examples    lines `CASE => WORDS`: whether each answer begins with these words, and how many do
 //! README.md has the forms of cases and answers.
 mod answer;
 mod model;
@@ -12,7 +12,7 @@ use answer::{answer, Answer, Case, GUARDS, TABLES};
 use judge::kinds::{Side, KINDS};
 use judge::refusal::Refusal;
 use std::fmt::Write as _;
-use std::io::{BufRead, Write as _};
+use std::io::{BufRead, Write};
 
 /// `-` is none; pieces are joined by `+`; a piece is hex digits, or HH*N for N bytes HH.
 fn bytes(s: &str) -> Option<Vec<u8>> {
@@ -110,43 +110,82 @@ fn answered(number: usize, line: &str) -> (Case, Answer) {
     (case, answer)
 }
 
+/// Whether an answer begins with these words, of which there is at least one. Each is a whole word; bytes may be spelt as in a case.
+fn begins(answer: &str, words: &str) -> bool {
+    let mut said = answer.split_ascii_whitespace();
+    let mut wanted = words.split_ascii_whitespace().peekable();
+    let spelt = |word: &str| bytes(word).filter(|_| word.contains(['*', '+'])).map_or(word.into(), |b| hex(&b));
+    wanted.peek().is_some() && wanted.all(|word| said.next() == Some(&spelt(word)))
+}
+
+/// Whether a line of the examples has an answer, and the right one. If not, says so.
+fn as_stated(number: usize, line: &str) -> bool {
+    let Some((case, words)) = line.split_once(" => ") else {
+        eprintln!("line {number}: {line:.80}: no answer is stated");
+        return false;
+    };
+    let said = text(&answered(number, case).1);
+    let is_right = begins(&said, words);
+    if !is_right {
+        eprintln!("line {number}: {case:.80}: {said:.80}, not {words}");
+    }
+    is_right
+}
+
+/// The lines of standard input that are neither empty nor a comment, with their numbers.
+fn lines() -> impl Iterator<Item = (usize, String)> {
+    let all = (1..).zip(std::io::stdin().lock().lines());
+    let read = all.map(|(number, line)| (number, line.unwrap_or_else(|e| stop(&e.to_string()))));
+    read.filter(|(_, line)| !line.is_empty() && !line.starts_with('#'))
+}
+
+fn put(out: &mut impl Write, bytes: &[u8]) {
+    out.write_all(bytes).unwrap_or_else(|e| stop(&e.to_string()));
+}
+
+/// Whether all examples are as stated, and there is one.
+fn examples(out: &mut impl Write) -> bool {
+    let (right, wrong): (Vec<_>, Vec<_>) = lines().partition(|(number, line)| as_stated(*number, line));
+    put(out, format!("{} examples as stated\n", right.len()).as_bytes());
+    !right.is_empty() && wrong.is_empty()
+}
+
+fn answers(out: &mut impl Write) {
+    for (number, line) in lines() {
+        put(out, format!("{}\n", text(&answered(number, &line).1)).as_bytes());
+    }
+}
+
+/// Whether every row occurred, and every kind was read and written.
+fn packed(out: &mut impl Write) -> bool {
+    let (mut tally, mut bytes) = (pack::Tally::default(), Vec::new());
+    for (number, line) in lines() {
+        let (case, answer) = answered(number, &line);
+        bytes.clear();
+        pack::pack(&mut bytes, &mut tally, &case, &answer);
+        put(out, &bytes);
+    }
+    bytes.clear();
+    tally.end(&mut bytes);
+    put(out, &bytes);
+    tally.report()
+}
+
 fn main() {
     // read before panics are made silent, so that a malformed line is reported
     std::sync::LazyLock::force(&KINDS);
     std::panic::set_hook(Box::new(|_| {}));
-    let mode = std::env::args().nth(1).unwrap_or_default();
     let mut out = std::io::BufWriter::with_capacity(1 << 20, std::io::stdout().lock());
-    let (mut tally, mut packed) = (pack::Tally::default(), Vec::new());
-    let mut wrong = 0;
-    for (number, line) in (1..).zip(std::io::stdin().lock().lines()) {
-        let line = line.unwrap_or_else(|e| stop(&e.to_string()));
-        let (line, words) = line.split_once(" => ").unwrap_or((&line, ""));
-        if line.is_empty() || line.starts_with('#') {
-            continue;
+    let arguments: Vec<String> = std::env::args().skip(1).collect();
+    let is_good = match &arguments.join(" ")[..] {
+        "" => {
+            answers(&mut out);
+            true
         }
-        let (case, answer) = answered(number, line);
-        match &mode[..] {
-            "pack" => {
-                packed.clear();
-                pack::pack(&mut packed, &mut tally, &case, &answer);
-                out.write_all(&packed).unwrap_or_else(|e| stop(&e.to_string()));
-            }
-            "examples" => {
-                if !text(&answer).starts_with(words) {
-                    wrong += 1;
-                    eprintln!("line {number}: {:.80}: {:.80}, not {words}", line, text(&answer));
-                }
-            }
-            _ => writeln!(out, "{}", text(&answer)).unwrap_or_else(|e| stop(&e.to_string())),
-        }
-    }
-    if mode == "pack" {
-        packed.clear();
-        tally.end(&mut packed);
-        out.write_all(&packed).unwrap_or_else(|e| stop(&e.to_string()));
-    }
+        "pack" => packed(&mut out),
+        "examples" => examples(&mut out),
+        _ => stop("usage: oracle [pack | examples]"),
+    };
     out.flush().unwrap_or_else(|e| stop(&e.to_string()));
-    if wrong > 0 || mode == "pack" && !tally.report() {
-        std::process::exit(1);
-    }
+    std::process::exit(if is_good { 0 } else { 1 })
 }

@@ -3,16 +3,19 @@
 
 SCALE multiplies the cases made by chance. The same lines come on every machine for the same two numbers.
 """
+import hashlib
 import struct
 import sys
 from pathlib import Path
 
 sys.dont_write_bytecode = True
 sys.path.insert(0, str(Path(__file__).resolve().parent.parent))
-from kinds import KINDS, is_tail, span
+from kinds import KINDS, is_tail, span, width
 
 LIMIT = max(k.most for k in KINDS)  # the longest payload that the calls by code take
 TOP = 2**64 - 1
+EACH = 10  # payloads of any size are made once more for each so many of the scale
+LENT = 1024  # the most records of a list that the program that compares lends to a list's writer
 LED, OUT, TEXT, BIOMATCH = (next(k for k in KINDS if k.name == name) for name in ("LED", "OUT", "TEXT", "BIOMATCH"))
 
 
@@ -31,7 +34,13 @@ class Chance:
         return ((s * 0x2545F4914F6CDD1D & TOP) >> 11) % n
 
     def bytes(self, n):
+        if n > 64:
+            return hashlib.shake_128(self.bytes(8)).digest(n)
         return bytes(self.below(256) for _ in range(n))
+
+    def size(self, n):
+        """below n; each number of bits as often as any other"""
+        return min(n - 1, self.below(2 << self.below(n.bit_length())))
 
     def of(self, xs):
         return xs[self.below(len(xs))]
@@ -58,12 +67,14 @@ def drawn(field, n):
     return R.bytes(n if field.startswith("tail") else int(field))
 
 
-def led_record():
-    """all bytes first, then the colours: other draws would make other vectors"""
-    r = bytearray(R.bytes(LED.step))
-    for at, highest in LED.limits:
-        r[at] = R.below(highest + 1)
-    return bytes(r)
+def good_list(kind, n):
+    p, at = bytearray(R.bytes(kind.step * n)), 0
+    for field in kind.fields:
+        if span(field):
+            low, high = span(field)
+            p[at::kind.step] = bytes(low + b % (high - low + 1) for b in p[at::kind.step])
+        at += width(field)
+    return bytes(p)
 
 
 def pieces(kind, n):
@@ -79,9 +90,21 @@ def pieces(kind, n):
 
 def good(kind, n):
     """a good payload with a tail of n bytes or bits, or a list of n records"""
-    if kind is LED:
-        return b"".join(led_record() for _ in range(n))
-    return b"".join(b"".join(pieces(kind, n)) for _ in range(n if kind.step > 1 else 1))
+    return good_list(kind, n) if kind.step > 1 else b"".join(pieces(kind, n))
+
+
+def apart(kind, n):
+    """the fixed fields and the tail of a good payload"""
+    parts = list(zip(kind.fields, pieces(kind, n)))
+    fixed = b"".join(b for field, b in parts if not is_tail(field) and field not in ("len8", "len16"))
+    return fixed, b"".join(b for field, b in parts if is_tail(field))
+
+
+def longest(kind):
+    """the most records, or the most bytes or bits of the tail"""
+    if kind.step > 1:
+        return kind.most // kind.step
+    return 0xFFFF if "bits16" in kind.fields else kind.most - kind.least
 
 
 EDGES = (0, 1, 2, 3, 4, 5, 6, 7, 8, 9, 10, 0x11, 0x12, 0x1F, 0x20, 0x7E, 0x7F, 0x80, 0xFF)
@@ -198,8 +221,10 @@ def w(what, code, fixed, tail=b""):
 
 
 def writes(scale):
+    for kind in (LED, OUT):
+        for n in (5, 13, 255, 256, 257, 300, LENT - 1, LENT):
+            yield w("command", kind.code, good(kind, n))
     for _ in range(4 * scale):
-        # lists have at most four records, as many as the program that compares lends
         for n in (0, 1, 2, 3, 4):
             yield w("command", 0x69, good(LED, n))
             yield w("command", 0x68, good(OUT, n))
@@ -245,19 +270,43 @@ def other_writes(scale):
         if (kind.side, kind.code) in WRITTEN:
             continue
         for n in 4 * scale * kind.tried:
-            parts = list(zip(kind.fields, pieces(kind, n)))
-            fixed = b"".join(b for field, b in parts if not is_tail(field) and field not in ("len8", "len16"))
-            tail = b"".join(b for field, b in parts if is_tail(field))
+            fixed, tail = apart(kind, n)
             yield w(kind.side, kind.code, fixed, tail)
             if is_tail(kind.fields[-1]):
                 yield w(kind.side, kind.code, fixed, tail + R.bytes(1))
+
+
+def of_any_size(scale):
+    """lists and tails of any size up to the longest, all bytes by chance: read, damaged and written; records of lists, walkers, bits
+
+    In the first turn all but one payload of each kind with a tail are drawn by `size`, so that the stored vectors stay short.
+    """
+    for turn in range(1 + scale // EACH):
+        ways = (R.below, R.size) if turn else (R.size,)
+        for kind in (k for k in KINDS if k.least < k.most):
+            most = longest(kind)
+            if turn or kind.step == 1:
+                yield case(kind, good(kind, 1 + R.below(most)))
+            p = good(kind, 1 + R.of(ways)(most))
+            for q in (p, *damaged(p, kind.least)):
+                yield case(kind, q)
+            if kind.step > 1:
+                yield f"record {kind.code:02X} {R.below(len(p) // kind.step + 1)} {spell(p)}"
+                yield w(kind.side, kind.code, good(kind, R.size(LENT + 1)))
+            else:
+                yield w(kind.side, kind.code, *apart(kind, R.of(ways)(most + 1)))
+        p = good(LED, 1 + R.of(ways)(longest(LED)))
+        yield f"walk {spell(p)}"
+        yield f"walk {R.below(len(p))} {spell(p)}"
+        n = R.of(ways)(0x10000)
+        yield f"bits {n} {spell(R.bytes((n + R.below(16)) // 8))}"
 
 
 def bits():
     for n in range(34):
         for k in range(5):
             yield f"bits {n} {spell(R.bytes(k))}"
-    for n, k in ((255, 32), (256, 32), (1000, 125), (1001, 125)):
+    for n, k in ((255, 32), (256, 32), (1000, 125), (1001, 125), (20001, 2501)):
         yield f"bits {n} {spell(R.bytes(k))}"
     for k in (8191, 8192, 8193):
         yield f"bits 65535 FF*{k}"
@@ -315,6 +364,7 @@ def cases(scale):
     yield from writes(scale)
     yield from writes_at_limits()
     yield from other_writes(scale)
+    yield from of_any_size(scale)
     yield from bits()
     yield from records(scale)
     yield from walks(scale)

@@ -7,13 +7,45 @@ ghost use mathlib.Core.Bool.{true};
 ghost use mathlib.Core.Logic.{_↔_};
 ghost use Prim.Native.Nat.{_<_};
 ghost use lib.ListN.{length};
-ghost use Rattle.payload_util.specs.Bytes.{byteAt, u16At, u32At};
+ghost use Rattle.payload_util.specs.Bytes.{byteAt, u16At, u32At, u16Bytes, u32Bytes};
 ghost use Rattle.payload_util.specs.Refusals.{row};
 ghost use Rattle.payload_util.specs.Guards.{room};
 ghost use Rattle.payload_util.specs.Writing.{roomLast};
 ghost use Rattle.payload_util.specs.declared.Guard.the-variants.{Refused};
 ghost use Rattle.vectors_case.specs.Case.{wanted, wantedEffect, Tried};
 ghost use Rattle.vectors_case.specs.Buffer.{AllFrom, around, putting};
+
+// The code bytes of the kinds and the bytes of a list's record, by docs/REQUIREMENTS.md. The library's own are not used, since they are
+// what is tested.
+pub const LED: u8 = 0x69;
+
+pub const OUT: u8 = 0x68;
+
+pub const TEXT: u8 = 0x6B;
+
+pub const BIOREAD: u8 = 0x73;
+
+pub const BIOMATCH: u8 = 0x74;
+
+pub const FILETRANSFER: u8 = 0x7C;
+
+pub const MFG: u8 = 0x80;
+
+pub const RAW: u8 = 0x50;
+
+pub const FMT: u8 = 0x51;
+
+pub const BIOREADR: u8 = 0x57;
+
+pub const BIOMATCHR: u8 = 0x58;
+
+pub const NAK: u8 = 0x41;
+
+pub const XRD: u8 = 0xB1;
+
+pub const LED_BYTES: usize = 14;
+
+pub const OUT_BYTES: usize = 4;
 
 pub struct Case {
     pub class: u8,
@@ -72,6 +104,18 @@ fn is_row(e: Refusal, number: u8, code: u8, first: usize, second: usize) -> bool
         return false;
     }
     true
+}
+
+// The refusal that no case wants: the answer to a case that cannot be run.
+pub fn none() -> Refusal
+    ensures { λ r. ⌜ r ≡ row 0 0 0 0 ⌝ }
+{
+    Refusal {
+        number: 0,
+        code: 0,
+        first: 0,
+        second: 0,
+    }
 }
 
 // Puts b at every index from one up to another. False if the slice is too short.
@@ -174,7 +218,7 @@ pub fn filled(s: &[u8], from: usize, b: u8) -> bool
     true
 }
 
-// Fields of records made by hand. The library's own functions for numbers are not used, since they are what is tested.
+// Fields of records made by hand, and numbers taken apart. The library's own functions for numbers are not used, since they are what is tested.
 // The byte at an index, or 0.
 pub fn byte(s: &[u8], at: usize) -> u8
     ensures { λ r. ⌜ r ≡ byteAt (now (s .entry)) at ⌝ }
@@ -199,4 +243,19 @@ pub fn u32_at(s: &[u8], offset: usize) -> u32
         return 0;
     }
     (u16_at(s, offset) as u32) + 65536 * (u16_at(s, offset + 2) as u32)
+}
+
+// The bytes of a number, low byte first.
+pub fn u16_bytes(n: u16) -> [u8; 2]
+    ensures { λ r. ⌜ r ≡ u16Bytes n ⌝ }
+{
+    [(n % 256) as u8, (n / 256) as u8]
+}
+
+pub fn u32_bytes(n: u32) -> [u8; 4]
+    ensures { λ r. ⌜ r ≡ u32Bytes n ⌝ }
+{
+    let low = u16_bytes((n % 65536) as u16);
+    let high = u16_bytes((n / 65536) as u16);
+    [low[0], low[1], high[0], high[1]]
 }

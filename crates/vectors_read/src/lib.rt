@@ -1,6 +1,7 @@
 // Cases of tables and guards, and cases that read a payload, on the library: classes 0 to 6 and 10 to 13 of crates/vectors.
 pub mod guard;
 pub mod list;
+mod names;
 mod own;
 pub mod payload;
 mod read_bio;

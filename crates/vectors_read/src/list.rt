@@ -1,17 +1,21 @@
 // Classes 10 and 13: record k of LED or OUT, and the OUT record at a place. For classes 5 and 6, every record of a list.
+use crate::names;
 use led::LedRead;
 use led::LedRecord;
 use output::OutputRead;
 use output::OutputRecord;
-use payload_util::high_byte;
-use payload_util::low_byte;
 use vectors_case::Case;
+use vectors_case::LED;
+use vectors_case::LED_BYTES;
+use vectors_case::OUT_BYTES;
+use vectors_case::u16_bytes;
 ghost use Prim.Native.Nat.{_<_};
 
-// Whether the list has its wanted records, as many as the library counts, and row 16 after the last.
-pub(crate) fn records(c: Case, count: usize, size: usize, p: &[u8], want: &[u8]) -> bool
+// Whether the list has its wanted records, one for each of its whole records, and row 16 after the last.
+pub(crate) fn records(c: Case, size: usize, p: &[u8], want: &[u8]) -> bool
     requires { ⌜ 0 < size ⌝ }
 {
+    let n = p.len() / size;
     let mut k: usize = 0;
     let mut at: usize = 0;
     while size <= want.len() - at {
@@ -21,7 +25,7 @@ pub(crate) fn records(c: Case, count: usize, size: usize, p: &[u8], want: &[u8])
         k += 1;
         at += size;
     }
-    at == want.len() && (c.row != 0 || k == count) && record(past(c, count), p, want)
+    at == want.len() && (c.row != 0 || k == n) && record(past(c, n), p, want)
 }
 
 fn asking(mut c: Case, k: usize) -> Case {
@@ -40,11 +44,13 @@ fn past(mut c: Case, n: usize) -> Case {
     c
 }
 
+// The count is that of the whole records, also if reading refuses the payload.
 pub fn record(c: Case, p: &[u8], want: &[u8]) -> bool {
-    if c.code == LedRecord::CODE {
-        led(c, LedRecord::decode(p, c.argument), want)
+    if c.code == LED {
+        LedRecord::count(p) == p.len() / LED_BYTES && led(c, LedRecord::decode(p, c.argument), want)
     } else {
-        output(c, OutputRecord::decode(p, c.argument), want)
+        OutputRecord::count(p) == p.len() / OUT_BYTES
+            && output(c, OutputRecord::decode(p, c.argument), want)
     }
 }
 
@@ -52,36 +58,37 @@ pub fn record_at(c: Case, p: &[u8], want: &[u8]) -> bool {
     output(c, OutputRecord::decode_at(p, c.argument), want)
 }
 
-pub(crate) fn led(c: Case, read: LedRead, want: &[u8]) -> bool {
+fn led(c: Case, read: LedRead, want: &[u8]) -> bool {
     match read {
-        LedRead::Read(r) => crate::record(c, &led_bytes(r), &[], LedRecord::WIRE_LEN, want),
+        LedRead::Read(r) => crate::record(c, &led_bytes(r), &[], LED_BYTES, want),
         LedRead::Refused(e) => c.refuses(e),
     }
 }
 
 // By hand, since the record's writer is made of its to_bytes.
-fn led_bytes(r: LedRecord) -> [u8; 14] {
+pub(crate) fn led_bytes(r: LedRecord) -> [u8; 14] {
     let temporary = r.temporary;
     let permanent = r.permanent;
     let temporary_on = temporary.on_color;
     let temporary_off = temporary.off_color;
     let permanent_on = permanent.on_color;
     let permanent_off = permanent.off_color;
+    let timer = u16_bytes(temporary.timer);
     [
         r.reader,
         r.led,
         temporary.control,
         temporary.on_time,
         temporary.off_time,
-        temporary_on.as_byte(),
-        temporary_off.as_byte(),
-        low_byte(temporary.timer),
-        high_byte(temporary.timer),
+        names::color(temporary_on),
+        names::color(temporary_off),
+        timer[0],
+        timer[1],
         permanent.control,
         permanent.on_time,
         permanent.off_time,
-        permanent_on.as_byte(),
-        permanent_off.as_byte(),
+        names::color(permanent_on),
+        names::color(permanent_off),
     ]
 }
 
@@ -89,13 +96,9 @@ fn output(c: Case, read: OutputRead, want: &[u8]) -> bool {
     match read {
         OutputRead::Read(r) => {
             let code = r.code;
-            let bytes = [
-                r.output,
-                code.as_byte(),
-                low_byte(r.timer),
-                high_byte(r.timer),
-            ];
-            crate::record(c, &bytes, &[], OutputRecord::WIRE_LEN, want)
+            let timer = u16_bytes(r.timer);
+            let bytes = [r.output, names::output(code), timer[0], timer[1]];
+            crate::record(c, &bytes, &[], OUT_BYTES, want)
         }
         OutputRead::Refused(e) => c.refuses(e),
     }

@@ -7,47 +7,62 @@ use file_transfer::FileTransfer;
 use led::LedRecord;
 use mfg::Mfg;
 use nak::Nak;
-use osdp::Kind;
 use output::OutputRecord;
 use payload_util::Guard;
 use payload_util::Written;
 use raw_card::Fmt;
 use raw_card::Raw;
 use text::Text;
+use vectors_case::BIOMATCH;
+use vectors_case::BIOMATCHR;
+use vectors_case::BIOREAD;
+use vectors_case::BIOREADR;
+use vectors_case::FILETRANSFER;
+use vectors_case::FMT;
+use vectors_case::LED;
+use vectors_case::MFG;
+use vectors_case::NAK;
+use vectors_case::OUT;
+use vectors_case::RAW;
+use vectors_case::TEXT;
+use vectors_case::XRD;
+use vectors_case::none;
 use xrd::Xrd;
 
-pub(crate) fn check(kind: Kind, p: &[u8]) -> Guard {
-    match kind {
-        Kind::Led => LedRecord::check(p),
-        Kind::Out => OutputRecord::check(p),
-        Kind::Text => Text::check(p),
-        Kind::BioRead => BioRead::check(p),
-        Kind::BioMatch => BioMatch::check(p),
-        Kind::FileTransfer => FileTransfer::check(p),
-        Kind::Mfg => Mfg::check(p),
-        Kind::Raw => Raw::check(p),
-        Kind::Fmt => Fmt::check(p),
-        Kind::BioReadR => BioReadR::check(p),
-        Kind::BioMatchR => BioMatchR::check(p),
-        Kind::Nak => Nak::check(p),
-        Kind::Xrd => Xrd::check(p),
+pub(crate) fn check(code: u8, p: &[u8]) -> Guard {
+    match code {
+        LED => LedRecord::check(p),
+        OUT => OutputRecord::check(p),
+        TEXT => Text::check(p),
+        BIOREAD => BioRead::check(p),
+        BIOMATCH => BioMatch::check(p),
+        FILETRANSFER => FileTransfer::check(p),
+        MFG => Mfg::check(p),
+        RAW => Raw::check(p),
+        FMT => Fmt::check(p),
+        BIOREADR => BioReadR::check(p),
+        BIOMATCHR => BioMatchR::check(p),
+        NAK => Nak::check(p),
+        XRD => Xrd::check(p),
+        _ => Guard::Refused(none()),
     }
 }
 
-pub(crate) fn normalise(kind: Kind, p: &[u8], out: &mut [u8]) -> Written {
-    match kind {
-        Kind::Led => LedRecord::normalise(p, out),
-        Kind::Out => OutputRecord::normalise(p, out),
-        Kind::Text => Text::normalise(p, out),
-        Kind::BioRead => BioRead::normalise(p, out),
-        Kind::BioMatch => BioMatch::normalise(p, out),
-        Kind::FileTransfer => FileTransfer::normalise(p, out),
-        Kind::Mfg => Mfg::normalise(p, out),
-        Kind::Raw => Raw::normalise(p, out),
-        Kind::Fmt => Fmt::normalise(p, out),
-        Kind::BioReadR => BioReadR::normalise(p, out),
-        Kind::BioMatchR => BioMatchR::normalise(p, out),
-        Kind::Nak => Nak::normalise(p, out),
-        Kind::Xrd => Xrd::normalise(p, out),
+pub(crate) fn normalise(code: u8, p: &[u8], out: &mut [u8]) -> Written {
+    match code {
+        LED => LedRecord::normalise(p, out),
+        OUT => OutputRecord::normalise(p, out),
+        TEXT => Text::normalise(p, out),
+        BIOREAD => BioRead::normalise(p, out),
+        BIOMATCH => BioMatch::normalise(p, out),
+        FILETRANSFER => FileTransfer::normalise(p, out),
+        MFG => Mfg::normalise(p, out),
+        RAW => Raw::normalise(p, out),
+        FMT => Fmt::normalise(p, out),
+        BIOREADR => BioReadR::normalise(p, out),
+        BIOMATCHR => BioMatchR::normalise(p, out),
+        NAK => Nak::normalise(p, out),
+        XRD => Xrd::normalise(p, out),
+        _ => Written::Refused(none()),
     }
 }

@@ -1,17 +1,30 @@
 // Classes 5 and 6: a payload, read, checked and written again, by its code byte and by its kind.
 use crate::list;
+use crate::names;
 use crate::own;
 use crate::read_bio;
 use crate::read_command;
 use crate::read_reply;
-use led::LedRecord;
-use osdp::Kind;
 use osdp::Lookup;
 use osdp::Side;
-use output::OutputRecord;
 use payload_util::Guard;
 use payload_util::Written;
+use vectors_case::BIOMATCH;
+use vectors_case::BIOMATCHR;
+use vectors_case::BIOREAD;
+use vectors_case::BIOREADR;
 use vectors_case::Case;
+use vectors_case::FILETRANSFER;
+use vectors_case::FMT;
+use vectors_case::LED;
+use vectors_case::LED_BYTES;
+use vectors_case::MFG;
+use vectors_case::NAK;
+use vectors_case::OUT;
+use vectors_case::OUT_BYTES;
+use vectors_case::RAW;
+use vectors_case::TEXT;
+use vectors_case::XRD;
 use vectors_case::put;
 use vectors_case::wrote;
 ghost use mathlib.Core.Path.{_≡_};
@@ -25,24 +38,24 @@ const BY_CODE: usize = 1;
 
 const OF_KIND: usize = 2;
 
-// How a payload is handed to the library: by its code byte, or by its kind.
+// How a payload is handed to the library: by its code byte, or by the kind that has this code byte.
 enum Call {
     ByCode(Side, u8),
-    OfKind(Kind),
+    OfKind(u8),
 }
 
 impl Call {
     fn check(self, p: &[u8]) -> Guard {
         match self {
             Call::ByCode(side, code) => osdp::check(side, code, p),
-            Call::OfKind(kind) => own::check(kind, p),
+            Call::OfKind(code) => own::check(code, p),
         }
     }
 
     fn normalise(self, p: &[u8], out: &mut [u8]) -> Written {
         match self {
             Call::ByCode(side, code) => osdp::normalise(side, code, p, out),
-            Call::OfKind(kind) => own::normalise(kind, p, out),
+            Call::OfKind(code) => own::normalise(code, p, out),
         }
     }
 }
@@ -58,20 +71,28 @@ fn by_code(c: Case, p: &[u8], want: &[u8], out: &mut [u8]) -> bool {
         return true;
     }
     let call = Call::ByCode(side_of(c), c.code);
-    c.guards(osdp::strict(side_of(c), c.code, p)) && answers(reading(c), call, p, want, out)
+    finds(c, osdp::kind_of(side_of(c), c.code))
+        && c.guards(osdp::strict(side_of(c), c.code, p))
+        && answers(reading(c), call, p, want, out)
+}
+
+// Whether what a code byte was found to be is what the case says.
+fn finds(c: Case, found: Lookup) -> bool {
+    match found {
+        Lookup::Carried(kind) => {
+            names::kind(kind) == c.code && c.row != 1 && c.row != 2 && c.row != 14
+        }
+        Lookup::NotCarried => c.row == 14,
+        Lookup::Unknown => c.row == 1 || c.row == 2,
+    }
 }
 
 fn of_kind(c: Case, p: &[u8], want: &[u8], out: &mut [u8]) -> bool {
     if c.argument == BY_CODE {
         return true;
     }
-    match osdp::kind_of(side_of(c), c.code) {
-        Lookup::Carried(kind) => {
-            let read = reading(c);
-            reads(read, kind, p, want) && answers(read, Call::OfKind(kind), p, want, out)
-        }
-        _ => false,
-    }
+    let read = reading(c);
+    reads(read, p, want) && answers(read, Call::OfKind(c.code), p, want, out)
 }
 
 fn side_of(c: Case) -> Side {
@@ -82,22 +103,39 @@ fn side_of(c: Case) -> Side {
     }
 }
 
-// Whether the kind's reader gives the wanted fields and the wanted tail.
-fn reads(c: Case, kind: Kind, p: &[u8], want: &[u8]) -> bool {
-    match kind {
-        Kind::Led => list::records(c, LedRecord::count(p), LedRecord::WIRE_LEN, p, want),
-        Kind::Out => list::records(c, OutputRecord::count(p), OutputRecord::WIRE_LEN, p, want),
-        Kind::Text => read_command::text(c, p, want),
-        Kind::BioRead => read_bio::bio_read(c, p, want),
-        Kind::BioMatch => read_bio::bio_match(c, p, want),
-        Kind::FileTransfer => read_command::file_transfer(c, p, want),
-        Kind::Mfg => read_command::mfg(c, p, want),
-        Kind::Raw => read_reply::raw(c, p, want),
-        Kind::Fmt => read_reply::fmt(c, p, want),
-        Kind::BioReadR => read_bio::bio_read_r(c, p, want),
-        Kind::BioMatchR => read_bio::bio_match_r(c, p, want),
-        Kind::Nak => read_reply::nak(c, p, want),
-        Kind::Xrd => read_reply::xrd(c, p, want),
+// Whether the kind's reader gives the wanted fields and the wanted tail. False if no kind has the code byte.
+fn reads(c: Case, p: &[u8], want: &[u8]) -> bool {
+    if c.class == COMMANDS {
+        reads_command(c, p, want)
+    } else {
+        reads_reply(c, p, want)
+    }
+}
+
+fn reads_command(c: Case, p: &[u8], want: &[u8]) -> bool {
+    let code = c.code;
+    match code {
+        LED => list::records(c, LED_BYTES, p, want),
+        OUT => list::records(c, OUT_BYTES, p, want),
+        TEXT => read_command::text(c, p, want),
+        BIOREAD => read_bio::bio_read(c, p, want),
+        BIOMATCH => read_bio::bio_match(c, p, want),
+        FILETRANSFER => read_command::file_transfer(c, p, want),
+        MFG => read_command::mfg(c, p, want),
+        _ => false,
+    }
+}
+
+fn reads_reply(c: Case, p: &[u8], want: &[u8]) -> bool {
+    let code = c.code;
+    match code {
+        RAW => read_reply::raw(c, p, want),
+        FMT => read_reply::fmt(c, p, want),
+        BIOREADR => read_bio::bio_read_r(c, p, want),
+        BIOMATCHR => read_bio::bio_match_r(c, p, want),
+        NAK => read_reply::nak(c, p, want),
+        XRD => read_reply::xrd(c, p, want),
+        _ => false,
     }
 }
 

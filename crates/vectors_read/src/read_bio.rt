@@ -1,4 +1,5 @@
 // The readers of the biometric payloads.
+use crate::names;
 use bio::BioMatchR;
 use bio::BioMatchRRead;
 use bio::BioReadR;
@@ -10,14 +11,16 @@ use biometric::BioRead;
 use biometric::BioReadRead;
 use vectors_case::Case;
 
-// A template comes after its length.
+// Where a template begins in the wanted bytes: after the head and the length.
+const TEMPLATE_AT: usize = 6;
+
 fn head(c: Case, h: BioHead, tail: &[u8], at: usize, want: &[u8]) -> bool {
     let bio_type = h.bio_type;
     let bio_format = h.bio_format;
     let fixed = [
         h.reader,
-        bio_type.as_byte(),
-        bio_format.as_byte(),
+        names::bio_type(bio_type),
+        names::bio_format(bio_format),
         h.quality,
     ];
     crate::record(c, &fixed, tail, at, want)
@@ -25,7 +28,7 @@ fn head(c: Case, h: BioHead, tail: &[u8], at: usize, want: &[u8]) -> bool {
 
 pub(crate) fn bio_read(c: Case, p: &[u8], want: &[u8]) -> bool {
     match BioRead::decode(p) {
-        BioReadRead::Read(r) => head(c, r.head, &[], BioRead::WIRE_LEN, want),
+        BioReadRead::Read(r) => head(c, r.head, &[], 4, want),
         BioReadRead::Refused(e) => c.refuses(e),
     }
 }
@@ -33,7 +36,7 @@ pub(crate) fn bio_read(c: Case, p: &[u8], want: &[u8]) -> bool {
 pub(crate) fn bio_match(c: Case, p: &[u8], want: &[u8]) -> bool {
     let template = BioMatch::template(p);
     match BioMatch::decode(p) {
-        BioMatchRead::Read(r) => head(c, r.head, template, BioMatch::WIRE_LEN, want),
+        BioMatchRead::Read(r) => head(c, r.head, template, TEMPLATE_AT, want),
         BioMatchRead::Refused(e) => crate::refusal(c, e, template),
     }
 }
@@ -41,20 +44,14 @@ pub(crate) fn bio_match(c: Case, p: &[u8], want: &[u8]) -> bool {
 pub(crate) fn bio_read_r(c: Case, p: &[u8], want: &[u8]) -> bool {
     let sample = BioReadR::data(p);
     match BioReadR::decode(p) {
-        BioReadRRead::Read(r) => head(c, r.head, sample, BioReadR::WIRE_LEN, want),
+        BioReadRRead::Read(r) => head(c, r.head, sample, TEMPLATE_AT, want),
         BioReadRRead::Refused(e) => crate::refusal(c, e, sample),
     }
 }
 
 pub(crate) fn bio_match_r(c: Case, p: &[u8], want: &[u8]) -> bool {
     match BioMatchR::decode(p) {
-        BioMatchRRead::Read(r) => crate::record(
-            c,
-            &[r.reader, r.result, r.score],
-            &[],
-            BioMatchR::WIRE_LEN,
-            want,
-        ),
+        BioMatchRRead::Read(r) => crate::record(c, &[r.reader, r.result, r.score], &[], 3, want),
         BioMatchRRead::Refused(e) => c.refuses(e),
     }
 }

@@ -1,13 +1,13 @@
 // The readers of RAW, FMT, NAK and XRD.
+use crate::names;
 use nak::Nak;
 use nak::NakRead;
-use payload_util::high_byte;
-use payload_util::low_byte;
 use raw_card::Fmt;
 use raw_card::FmtRead;
 use raw_card::Raw;
 use raw_card::RawRead;
 use vectors_case::Case;
+use vectors_case::u16_bytes;
 use xrd::Xrd;
 use xrd::XrdRead;
 
@@ -15,13 +15,9 @@ pub(crate) fn raw(c: Case, p: &[u8], want: &[u8]) -> bool {
     let bits = Raw::bits(p);
     match Raw::decode(p) {
         RawRead::Read(r) => {
-            let fixed = [
-                r.reader,
-                r.format_code,
-                low_byte(r.bit_count),
-                high_byte(r.bit_count),
-            ];
-            crate::record(c, &fixed, bits, Raw::WIRE_LEN, want)
+            let count = u16_bytes(r.bit_count);
+            let fixed = [r.reader, r.format_code, count[0], count[1]];
+            crate::record(c, &fixed, bits, 4, want)
         }
         RawRead::Refused(e) => crate::refusal(c, e, bits),
     }
@@ -34,7 +30,7 @@ pub(crate) fn fmt(c: Case, p: &[u8], want: &[u8]) -> bool {
             c,
             &[r.reader, r.direction, r.char_count],
             chars,
-            Fmt::WIRE_LEN,
+            3,
             want,
         ),
         FmtRead::Refused(e) => crate::refusal(c, e, chars),
@@ -46,7 +42,7 @@ pub(crate) fn nak(c: Case, p: &[u8], want: &[u8]) -> bool {
     match Nak::decode(p) {
         NakRead::Read(r) => {
             let error = r.error;
-            crate::record(c, &[error.as_byte()], completion_codes, Nak::WIRE_LEN, want)
+            crate::record(c, &[names::nak(error)], completion_codes, 1, want)
         }
         NakRead::Refused(e) => crate::refusal(c, e, completion_codes),
     }
@@ -55,7 +51,7 @@ pub(crate) fn nak(c: Case, p: &[u8], want: &[u8]) -> bool {
 pub(crate) fn xrd(c: Case, p: &[u8], want: &[u8]) -> bool {
     let payload = Xrd::payload(p);
     match Xrd::decode(p) {
-        XrdRead::Read(r) => crate::record(c, &[r.mode], payload, Xrd::WIRE_LEN, want),
+        XrdRead::Read(r) => crate::record(c, &[r.mode], payload, 1, want),
         XrdRead::Refused(e) => crate::refusal(c, e, payload),
     }
 }

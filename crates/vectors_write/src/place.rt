@@ -1,8 +1,8 @@
 // Class 14: one record of LED or OUT written at a place.
 use crate::record;
-use led::LedRecord;
 use payload_util::Written;
 use vectors_case::Case;
+use vectors_case::LED;
 use vectors_case::filled;
 use vectors_case::holds;
 use vectors_case::put;
@@ -23,7 +23,7 @@ pub fn run(c: Case, input: &[u8], want: &[u8], out: &mut [u8]) -> bool
 }
 
 fn encode_at(c: Case, f: &[u8], out: &mut [u8]) -> Written {
-    if c.code == LedRecord::CODE {
+    if c.code == LED {
         record::led(f).encode_at(out, c.argument)
     } else {
         record::output(f).encode_at(out, c.argument)

@@ -6,10 +6,10 @@ use Rattle.vectors_read.proofs.list.records.Statement.{statement}
 use Rattle.vectors_read.proofs.list.records.Tie as tie
 
 abbrev Inv-loop : tie.InvT-loop
-Inv-loop c count size p want k₀ at₀ k at = (k ≤ at) × (at ≤ length want)
+Inv-loop c size p want n k₀ at₀ k at = (k ≤ at) × (at ≤ length want)
 
 abbrev μ-loop : tie.MeasureT-loop
-μ-loop c count size p want k₀ at₀ k at = length want - at
+μ-loop c size p want n k₀ at₀ k at = length want - at
 
 pub records-spec : {M : Type 1} → statement M
 records-spec =
@@ -17,6 +17,7 @@ records-spec =
     (tie.spec
     Inv-loop
     μ-loop
+    (λ c. search needs)
     (λ c. search needs)
     (λ c. search needs)
     (λ c κs. search needs)

@@ -1,0 +1,117 @@
+#!/usr/bin/env python3
+"""Whether the bench notices what is wrong: selftest.py LIBRARY READERS, the two archives; run.sh --selftest calls it
+
+A bench over wrong.c has to name the call and to exit with 1, before it prints a time if the call is wrong from the start. A report on times
+that miss a target has to name it and to exit with 1. Everything goes to build/bench-selftest."""
+import os
+import shutil
+import subprocess
+import sys
+from pathlib import Path
+
+sys.dont_write_bytecode = True
+TOOLS = Path(__file__).resolve().parent
+OUT = TOOLS.parent.parent / "build/bench-selftest"
+sys.path.insert(0, str(TOOLS.parent))
+import kinds
+
+# what is wrong, how the bench is called, and the call that has to be named; the late ones are right until something is measured
+WRONG = (
+    ("refuses all", (), "LED, 14 bytes, check: the answer is -5, not 0"),
+    ("accepts all", (), "LED, 0 bytes, check: the answer is 0, not -5"),
+    ("a byte", (), "LED, 14 bytes, normalise: byte 7 of the output is"),
+    ("a byte", ("count",), "LED, 14 bytes, normalise: byte 7 of the output is"),
+    ("a byte behind", (), "LED, 14 bytes, normalise: byte 0 behind the output is 0x00"),
+    ("a number", (), "LED, 14 bytes, read: the answer is"),
+    ("the other build", (), "LED, 14 bytes, check-beside: the answer is -5, not 0"),
+    ("a late byte", (), "LED, 14 bytes, normalise: after the last round byte 13 of the output is"),
+    ("a late answer", (), "LED, 14 bytes, normalise: its "),
+)
+
+# times that meet every target, by call, and changes each of which misses one target
+TIMES = {"check": 3, "decode": 20, "decode-of-type": 8, "normalise": 4, "decode+encode": 40, "decode+encode-of-type": 36, "read": 4,
+         "decode+number-of-type": 9, "memcpy": 4, "nothing": 2}
+MISSES = (
+    ("XRD", 1, "check", {"check": 2.5, "decode": 4}),
+    ("OUT", 65544, "check", {"check": 9.6}),
+    ("RAW", 4, "check", {"check": 8.5}),
+    ("NAK", 1, "normalise", {"normalise": 30}),
+    ("LED", 65534, "normalise", {"normalise": 10}),
+    ("FMT", 258, "normalise", {"normalise": 30}),
+    ("MFG", 65546, "normalise", {"normalise": 8}),
+)
+
+failed = []
+
+
+def expect(holds, what):
+    if not holds:
+        failed.append(what)
+        print(f"selftest: {what}")
+
+
+def run(*command, **environment):
+    return subprocess.run([str(c) for c in command], capture_output=True, text=True, env={**os.environ, **environment})
+
+
+def made(*command):
+    done = run(*command)
+    if done.returncode:
+        sys.exit(f"{' '.join(map(str, command))}\n{done.stdout}{done.stderr}")
+
+
+def renamed(archive, copy, prefixes):
+    """a copy whose symbols have prefixes"""
+    made("objcopy", *(f"--redefine-sym={name}={prefix}{name}" for name, prefix in prefixes.items()), archive, copy)
+    return copy
+
+
+def bench(library, readers):
+    """over wrong.c, whose calls are neither in the library, nor in the readers, nor in the other build"""
+    taken, kept = ("osdp_check_command", "osdp_normalise_command"), ("osdp_check_reply", "osdp_normalise_reply")
+    right = renamed(library, OUT / "right.a", dict.fromkeys(taken, "right_"))
+    beside = renamed(library, OUT / "beside.a", {taken[0]: "unused_", **dict.fromkeys((taken[1], *kept), "beside_")})
+    readers = renamed(readers, OUT / "readers.a", {"bench_read_led": "right_"})
+    made("cc", "-O2", "-Wall", "-Werror", "-c", TOOLS / "wrong.c", "-o", OUT / "wrong.o")
+    made(TOOLS / "build.sh", OUT / "bench", OUT / "wrong.o", readers, "--cfg", "beside", "-C", f"link-arg={right}", "-C", f"link-arg={beside}")
+    return OUT / "bench"
+
+
+def try_calls(binary):
+    expect(run(binary).returncode == 0, "the bench over the right calls fails")
+    for what, arguments, named in WRONG:
+        said = run(binary, *arguments, WRONG=what)
+        expect(said.returncode == 1 and named in said.stderr, f"{what} {' '.join(arguments)}: not noticed, or not named: {said.stderr[:200]}")
+        expect("late" in what or not said.stdout, f"{what}: noticed after something was measured")
+
+
+def report(name, changed, change):
+    """the report on TIMES with a change, and whether it wrote its page, there and to the documents"""
+    folder = OUT / name
+    (folder / "docs").mkdir(parents=True)
+    times = {(k.name, size): TIMES for k in kinds.KINDS for size in sorted({k.least, k.most})}
+    times[changed] = {**TIMES, **change}
+    lines = [f"{kind}\t{size}\t{call}\t{ns}" for (kind, size), calls in times.items() for call, ns in calls.items()]
+    for place in "12":
+        (folder / f"place-{place}-run-1.tsv").write_text("\n".join(lines) + "\n")
+    said = run(sys.executable, TOOLS / "report.py", folder, folder / "docs")
+    return said, (folder / "PERFORMANCE.md").exists(), (folder / "docs/PERFORMANCE.md").exists()
+
+
+def try_reports():
+    said, page, documents = report("met", ("RAW", 4), {})
+    expect(said.returncode == 0 and page and documents, f"a report of met targets fails: {said.stdout[-300:]}{said.stderr[-300:]}")
+    for kind, size, call, change in MISSES:
+        where = f"{kind}, {size:,} byte{'s' if size > 1 else ''}, {call}"
+        said, page, documents = report(f"{kind}-{size}", (kind, size), change)
+        named = f"target missed: {where}:" in said.stdout and f"; 1 of {len(MISSES)} targets missed" in said.stdout
+        expect(said.returncode == 1 and named, f"{where}: a target is missed, and the report does not say so: {said.stdout[-300:]}")
+        expect(page and not documents, f"{where}: the page is not written, or copied to the documents")
+
+
+shutil.rmtree(OUT, ignore_errors=True)
+OUT.mkdir(parents=True)
+try_calls(bench(*sys.argv[1:]))
+try_reports()
+print(f"bench selftest: {len(WRONG)} wrong calls and {len(MISSES)} missed targets, {len(failed)} not noticed")
+sys.exit(1 if failed else 0)

@@ -1,0 +1,27 @@
+# What compare.sh and vectors.sh share; they source it.
+here=$(cd "$(dirname "${BASH_SOURCE[0]}")" && pwd)
+root=$(cd "$here/../.." && pwd)
+out=$root/build/oracle
+[[ ${ALONE-} == "$root"/* ]] || exec "$root/tools/alone.py" "$0" "$@"
+
+fail() {
+    echo "$0: $*" >&2
+    exit 1
+}
+
+# Builds the oracle over SOURCES, and holds it to the examples. How many there are is counted here as well.
+ready() {
+    "$here/build.sh" ${1:+"$1"}
+    local stated said
+    stated=$(grep -cE '^[^#]' "$here/examples.txt") || fail "no examples in examples.txt"
+    said=$("$out/oracle" examples <"$here/examples.txt") || fail "the oracle does not answer the examples as stated"
+    [ "$said" = "$stated examples as stated" ] || fail "$stated examples in examples.txt, and the oracle said: $said"
+    echo "$said"
+}
+
+# Whether a file has the oracle's tally of so many cases, in one line, and nothing else.
+tallied() {
+    local lines
+    mapfile -t lines <"$1"
+    [ ${#lines[@]} = 1 ] && [[ ${lines[0]} =~ ^"$2 cases; by row, 0 for none: "[0-9]+:\ [0-9]+(,\ [0-9]+:\ [0-9]+)*$ ]]
+}
