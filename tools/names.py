@@ -231,7 +231,10 @@ def main():
 
     @functools.cache
     def inspect(text):
-        return subprocess.run([options.program.resolve()], input=text.encode(), capture_output=True).stdout.decode("ascii")
+        ran = subprocess.run([options.program.resolve()], input=text.encode(), capture_output=True)
+        if ran.returncode or ran.stderr:
+            sys.exit(f"{options.program} ended with {ran.returncode} and said {ran.stderr}")
+        return ran.stdout.decode("ascii")
 
     if options.selftest:
         sys.exit(1 if selftest(top, rust, inspect) else 0)

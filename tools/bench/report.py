@@ -109,6 +109,8 @@ class Target:
     def __init__(self, call, other, limit, where, measure, at):
         self.call, self.other, self.limit, self.where, self.measure = call, other, limit, where, measure
         self.keys = [key for key in KEYS if at(*key)]
+        if not self.keys:
+            sys.exit(f"report.py: nothing was measured for the target of {call}, {where}")
 
     def missed(self, measure):
         """where it is missed at either place, with the better of the two and the worse"""
@@ -118,7 +120,7 @@ class Target:
                 yield f"{sized(key)}, {self.call}: {min(r):.3f} to {max(r):.3f} of {NAMES[self.other]} {measure}, above {self.limit}"
 
     def row(self):
-        largest = " | ".join(worst(self.call, self.other, m, self.keys) if self.keys else "no such size" for m in MEASURES)
+        largest = " | ".join(worst(self.call, self.other, m, self.keys) for m in MEASURES)
         met = "no" if any(self.missed(self.measure)) else "yes"
         return f"| {self.call}, {self.where} | {self.limit} of {NAMES[self.other]} | {self.measure} | {met} | {largest} |"
 

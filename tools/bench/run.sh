@@ -5,8 +5,8 @@
 # number of runs (15). Exits with 1 if an answer or a byte is wrong, and then measures nothing, or if a target is missed. With --selftest tries
 # whether that is so.
 set -eu
-here=$(cd "$(dirname "$0")" && pwd)
-root=$(cd "$here/../.." && pwd)
+here=$(cd "$(dirname "$0")" && pwd -P)
+root=$(cd "$here/../.." && pwd -P)
 [[ ${ALONE-} == "$root"/* ]] || exec "$root/tools/alone.py" "$0" "$@"
 lib=$root/target/staticlib/libosdp.a
 readers=$root/target/staticlib/libbench_read.a
@@ -17,7 +17,7 @@ selftest=
 while true; do
     case ${1-} in
     --docs) docs=1; shift ;;
-    --beside) beside=$2; shift 2 ;;
+    --beside) beside=${2?--beside takes an archive}; shift 2 ;;
     --selftest) selftest=1; shift ;;
     *) break ;;
     esac

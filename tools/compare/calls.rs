@@ -15,8 +15,8 @@ extern "C" {
 pub const NO_ROOM: u8 = 15;
 /// How many differences are printed.
 const SHOWN: u64 = 10;
-/// How many bytes are watched in front of a buffer that ends at a forbidden page.
-const BEFORE: usize = 16;
+/// How many bytes are watched on both sides of a buffer.
+const BESIDE: usize = 16;
 /// One payload in so many is also written to a buffer that is far longer than it has to be.
 const FAR: usize = 128;
 /// More than any length that has 32 bits.
@@ -68,7 +68,7 @@ struct Buffer {
     watched: usize,
 }
 
-/// Tries the calls for one code byte; each thread has its own.
+/// Tries the calls for one code byte; each thread has its own. The payload cannot be written, except in `only_normalise`.
 pub struct Tester {
     side: Side,
     code: u8,
@@ -140,10 +140,11 @@ impl Tester {
         }
     }
 
-    /// A buffer of so many bytes; one in eight begins right after a forbidden page, the others end right before one.
+    /// A buffer of so many bytes.
     fn into(&mut self, l: Lent, room: usize, want: i32, form: &[u8]) {
-        let (out, before) = if self.places.below(8) == 0 { (self.out.front(), 0) } else { (self.out.end(room), BEFORE) };
-        self.normalise(l, Buffer { out, room, before, watched: room }, want, form);
+        let offset = self.out.offset(room, &mut self.places);
+        let (before, watched) = self.out.around(offset, BESIDE, room + BESIDE);
+        self.normalise(l, Buffer { out: self.out.at(offset), room, before, watched }, want, form);
     }
 
     fn far(&mut self, least: usize) -> Option<usize> {
@@ -181,13 +182,17 @@ impl Tester {
         }
     }
 
-    /// All calls for one payload. One in eight begins right after a forbidden page, the others end right before one; none can be written.
-    pub fn payload(&mut self, p: &[u8]) {
+    fn lend<'a>(&mut self, p: &'a [u8]) -> Lent<'a> {
         guarded::now(self.side, self.code, p.len());
-        let front = self.places.below(8) == 0;
-        let at = self.payload.put(p, front);
+        let offset = self.payload.offset(p.len(), &mut self.places);
+        let at = self.payload.put(p, offset);
         let null = p.is_empty() && self.places.below(2) == 0;
-        let l = Lent { p, at: if null { std::ptr::null() } else { at } };
+        Lent { p, at: if null { std::ptr::null() } else { at } }
+    }
+
+    /// All calls for one payload.
+    pub fn payload(&mut self, p: &[u8]) {
+        let l = self.lend(p);
         let row = match normalised(self.side, self.code, p) {
             Ok(form) => {
                 self.accepted(l, &form);
@@ -198,37 +203,59 @@ impl Tester {
                 e.row
             }
         };
+        self.counted(row);
+    }
+
+    fn counted(&mut self, row: u8) {
         self.count.payloads += 1;
         self.count.rows[usize::from(row)] += 1;
+    }
+
+    /// A check, and if it passes normalise into exactly enough room.
+    pub fn once(&mut self, p: &[u8]) {
+        let l = self.lend(p);
+        let row = match normalised(self.side, self.code, p) {
+            Ok(form) => {
+                self.check(l, 0);
+                self.into(l, form.len(), form.len() as i32, &form);
+                NO_ROOM
+            }
+            Err(e) => {
+                self.check(l, -i32::from(e.row));
+                e.row
+            }
+        };
+        self.counted(row);
     }
 
     /// A payload of so many zeroes, longer than any that is taken.
     pub fn too_long(&mut self, len: usize) {
         guarded::now(self.side, self.code, len);
-        let at = self.wide_payload.front();
+        let at = self.wide_payload.at(0);
         let l = Lent { p: unsafe { std::slice::from_raw_parts(at, len) }, at };
         let row = normalised(self.side, self.code, l.p).err().expect("too long").row;
         self.check(l, -i32::from(row));
-        for room in [0, 64] {
+        for room in [0, 64, LONGEST] {
             self.into(l, room, -i32::from(row), &[]);
         }
-        self.count.payloads += 1;
-        self.count.rows[usize::from(row)] += 1;
+        self.counted(row);
     }
 
     /// A buffer that is longer than any payload. Only its front can be touched.
     pub fn wide_room(&mut self, p: &[u8], room: usize) {
-        guarded::now(self.side, self.code, p.len());
-        let l = Lent { p, at: self.payload.put(p, false) };
-        let form = normalised(self.side, self.code, p).ok().expect("a good payload");
-        let buffer = Buffer { out: self.wide_out.front(), room, before: 0, watched: room.min(WIDE_FRONT) };
-        self.normalise(l, buffer, form.len() as i32, &form);
+        let l = self.lend(p);
+        let buffer = Buffer { out: self.wide_out.at(0), room, before: 0, watched: WIDE_FRONT };
+        match normalised(self.side, self.code, p) {
+            Ok(form) => self.normalise(l, buffer, form.len() as i32, &form),
+            Err(e) => self.normalise(l, buffer, -i32::from(e.row), &[]),
+        }
     }
+
     /// Writes a payload that normalising leaves as it is, and does little else, so that two threads are often in the call at the same time.
     pub fn only_normalise(&mut self, p: &[u8]) {
         guarded::now(self.side, self.code, p.len());
         let l = Lent { p, at: p.as_ptr() };
-        let buffer = Buffer { out: self.out.end(p.len()), room: p.len(), before: 0, watched: p.len() };
+        let buffer = Buffer { out: self.out.at(0), room: p.len(), before: 0, watched: p.len() };
         self.normalise(l, buffer, p.len() as i32, p);
     }
 }

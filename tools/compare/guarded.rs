@@ -1,5 +1,6 @@
 //! Memory between two pages that must not be touched. Touching one, or writing where only reading is allowed, ends the process, and prints which
 //! payload the thread was at.
+use judge::chance::Chance;
 use judge::kinds::Side;
 use std::cell::Cell;
 use std::ffi::c_void;
@@ -85,24 +86,33 @@ impl Region {
         r
     }
 
-    /// Copies the bytes to the front of the memory or to its end, and says where they are.
-    pub fn put(&self, bytes: &[u8], at_front: bool) -> *const u8 {
-        let place = if at_front { 0 } else { self.len - bytes.len() };
+    /// Copies the bytes to an offset, and says where they are.
+    pub fn put(&self, bytes: &[u8], offset: usize) -> *const u8 {
+        assert!(offset + bytes.len() <= self.len);
         unsafe {
-            std::ptr::copy_nonoverlapping(bytes.as_ptr(), self.written.add(place), bytes.len());
-            self.front.add(place)
+            std::ptr::copy_nonoverlapping(bytes.as_ptr(), self.written.add(offset), bytes.len());
+            self.front.add(offset)
         }
     }
 
-    /// Right after the first forbidden page.
-    pub fn front(&self) -> *mut u8 {
-        self.front
+    /// The offset of so many bytes: one time in eight right after the first forbidden page, one time in eight anywhere between, and else right
+    /// before the last forbidden page.
+    pub fn offset(&self, bytes: usize, r: &mut Chance) -> usize {
+        let end = self.len - bytes;
+        match r.below(8) {
+            0 => 0,
+            1 => r.below(end.min(PAGE) + 1),
+            _ => end,
+        }
     }
 
-    /// So many bytes, right before the last forbidden page.
-    pub fn end(&self, bytes: usize) -> *mut u8 {
-        assert!(bytes <= self.len);
-        unsafe { self.front.add(self.len - bytes) }
+    /// So many bytes at most, both before an offset and from it on, as far as they are of this memory.
+    pub fn around(&self, offset: usize, before: usize, from: usize) -> (usize, usize) {
+        (before.min(offset), from.min(self.len - offset))
+    }
+
+    pub fn at(&self, offset: usize) -> *mut u8 {
+        unsafe { self.front.add(offset) }
     }
 }
 

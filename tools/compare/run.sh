@@ -3,8 +3,8 @@
 # SOURCES is as for tools/oracle/build.sh, which builds the original; if it is empty, the default is used. Everything goes to build/.
 # Passes only if the comparison ends with status 0 and its last line says that it found nothing: a library could end the process too.
 set -euo pipefail
-here=$(cd "$(dirname "$0")" && pwd)
-root=$(cd "$here/../.." && pwd)
+here=$(cd "$(dirname "$0")" && pwd -P)
+root=$(cd "$here/../.." && pwd -P)
 [[ ${ALONE-} == "$root"/* ]] || exec "$root/tools/alone.py" "$0" "$@"
 RUST=${1-} SEED=${2-} "$root/tools/arguments.py" RUST SEED
 lib=$root/target/staticlib/libosdp.a
@@ -13,5 +13,5 @@ out=$root/build/compare
 "$root/tools/oracle/build.sh" ${1:+"$1"}
 mkdir -p "$out"
 "$here/build.sh" "$lib" "$out/compare"
-"$out/compare" ${2:+"$2"} | tee "$out/said"
-tail -n 1 "$out/said" | grep -qE '^compare: [0-9]+ cases .* 0 differences' || { echo "$0: the comparison broke off" >&2; exit 1; }
+timeout 1200 "$out/compare" ${2:+"$2"} | tee "$out/said" || { echo "$0: the comparison failed, or did not end within 20 minutes" >&2; exit 1; }
+tail -n 1 "$out/said" | grep -qE '^compare: [0-9]{9,} cases .* 0 differences' || { echo "$0: the comparison broke off" >&2; exit 1; }

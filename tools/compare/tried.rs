@@ -11,9 +11,11 @@ const TOO_LONG: [usize; 11] =
 const WIDE_ROOMS: [usize; 5] = [LONGEST + 1, 70_000, 1 << 31, 1 << 32, (1 << 32) + 1];
 /// How many lengths are drawn by chance for each kind; each makes six payloads.
 const BY_CHANCE: usize = 50_000;
-/// The records of a list in which each one is wrong once, and how many records of the longest list are.
+/// The records of a list in which each one is wrong, by all calls.
 const RECORDS: usize = 600;
-const OF_LONGEST: usize = 500;
+/// How many lengths are drawn by chance for each code byte, and how many payloads are tried on both sides in turn.
+const LENGTHS: usize = 50;
+const IN_TURN: usize = 300;
 /// How many bytes two threads normalise at the same time, each, in how many calls at least and at most, and payloads of which lengths.
 const AT_ONCE: usize = 800_000_000;
 const CALLS: [usize; 2] = [20_000, 300_000];
@@ -28,6 +30,9 @@ pub fn of_code(side: Side, code: u8, seed: u64, stop: u64) -> Count {
     }
     every_short_one(&mut t);
     of_other_kinds(&mut t, &mut r);
+    some_lengths(&mut t, &mut r);
+    let other = if side == Side::Command { Side::Reply } else { Side::Command };
+    in_turn(&mut t, Tester::new(other, code, seed, stop), &mut r);
     if let Some(k) = kind(side, code) {
         wide_rooms(&mut t, k, &mut r);
         every_value(&mut t, k, &mut r);
@@ -71,11 +76,37 @@ fn of_other_kinds(t: &mut Tester, r: &mut Chance) {
     }
 }
 
-/// Buffers far longer than any payload.
+/// Zeroes of lengths next to powers of 2, and by chance.
+fn some_lengths(t: &mut Tester, r: &mut Chance) {
+    let long = vec![0; LONGEST];
+    let by_power = (9..=16).flat_map(|k| [(1 << k) - 1, 1 << k, (1 << k) + 1]);
+    let by_chance: Vec<usize> = (0..LENGTHS).map(|_| r.below(LONGEST)).collect();
+    for n in by_power.chain(by_chance) {
+        t.payload(&long[..n]);
+    }
+}
+
+/// The same payloads under this code byte of both sides in turn. The counts of the other side are its own.
+fn in_turn(t: &mut Tester, mut other: Tester, r: &mut Chance) {
+    for _ in 0..IN_TURN {
+        let k = &KINDS[r.below(KINDS.len())];
+        let n = r.below(300);
+        let p = k.good(k.near(n), r);
+        t.payload(&p);
+        other.payload(&p);
+    }
+    t.count.cases += other.count.cases;
+}
+
+/// Buffers far longer than any payload: for ones that normalising leaves as they are, other good ones, and ones by chance.
 fn wide_rooms(t: &mut Tester, k: &Kind, r: &mut Chance) {
     for room in WIDE_ROOMS {
         for n in [k.least, k.near(200), k.most] {
             t.wide_room(&k.clean(n, r), room);
+            for _ in 0..8 {
+                t.wide_room(&k.good(n, r), room);
+                t.wide_room(&r.bytes(n + 1), room);
+            }
         }
     }
 }
@@ -98,7 +129,7 @@ fn every_pair(t: &mut Tester, k: &Kind, r: &mut Chance) {
     let list = k.step > 1;
     let p = k.clean(if list { k.most } else { k.near(k.least + 2) }, r);
     for at in 0..k.least - 1 {
-        if list && k.codes().any(|code| code == at || code == at + 1) {
+        if list && k.codes().any(|(code, _)| code == at || code == at + 1) {
             continue;
         }
         let mut values = 0..=0xFFFF_u16;
@@ -118,8 +149,7 @@ fn with_byte(t: &mut Tester, p: &[u8], at: usize, b: u8) {
     t.payload(&q);
 }
 
-/// One byte that is refused or folded, and nothing else that is: at each place of texts of every length and of a list, and at places by chance
-/// of the longest list.
+/// One byte that is refused or folded, and nothing else that is: at each place of texts of every length and of lists.
 fn wrong_alone(t: &mut Tester, k: &Kind, r: &mut Chance) {
     if k.fields.iter().any(|f| matches!(f, Field::Text)) {
         for n in k.least + 1..=k.most {
@@ -133,28 +163,23 @@ fn wrong_alone(t: &mut Tester, k: &Kind, r: &mut Chance) {
     }
     if k.step > 1 {
         let p = k.clean(RECORDS * k.step, r);
-        for record in 0..RECORDS {
-            wrong_record(t, k, &p, record, r);
+        for (at, highest) in wrong_places(k, RECORDS) {
+            for b in [highest + 1, r.from_to(highest + 1, 0xFE), 0xFF] {
+                with_byte(t, &p, at, b);
+            }
         }
-        let p = k.clean(k.most, r);
-        let last = k.most / k.step - 1;
-        for record in [0, last - 1, last].into_iter().chain((0..OF_LONGEST).map(|_| r.below(last)).collect::<Vec<_>>()) {
-            wrong_record(t, k, &p, record, r);
+        let mut p = k.clean(k.most, r);
+        for (at, highest) in wrong_places(k, k.most / k.step) {
+            let was = std::mem::replace(&mut p[at], r.from_to(highest + 1, 0xFF));
+            t.once(&p);
+            p[at] = was;
         }
     }
 }
 
-/// Each byte of a record that must not have just any value, one at a time: the first value that is refused or folded, the last, and one between.
-fn wrong_record(t: &mut Tester, k: &Kind, p: &[u8], record: usize, r: &mut Chance) {
-    let mut at = record * k.step;
-    for f in &k.fields {
-        if let Field::Code(_, highest) | Field::Folded(highest) = *f {
-            for b in [highest + 1, r.from_to(highest + 1, 0xFE), 0xFF] {
-                with_byte(t, p, at, b);
-            }
-        }
-        at += f.width();
-    }
+/// The places of a list at which not every value is kept, with the highest that is.
+fn wrong_places(k: &Kind, records: usize) -> impl Iterator<Item = (usize, u8)> + '_ {
+    (0..records).flat_map(move |record| k.limits().chain(k.codes()).map(move |(at, highest)| (record * k.step + at, highest)))
 }
 
 /// Every value that a field for the tail's length can have, with a tail of as many bytes, one less and one more.

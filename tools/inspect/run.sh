@@ -2,7 +2,7 @@
 # Runs inspect on the sample payloads: run.sh
 # Prints what it says, and fails if that is not crates/inspect/stdout, or if README.md shows lines that are not in it.
 set -euo pipefail
-root=$(cd "$(dirname "$0")/../.." && pwd)
+root=$(cd "$(dirname "$0")/../.." && pwd -P)
 sample=$root/crates/inspect
 mkdir -p "$root/build"
 "$root/target/bin/inspect" "$sample/stdin" | tee "$root/build/inspected"

@@ -151,9 +151,9 @@ impl Kind {
         self.places().filter_map(|(at, f)| if let Field::Folded(highest) = f { Some((at, highest)) } else { None })
     }
 
-    /// Offsets of the bytes of which some values are refused; for a list, the offsets in each record.
-    pub fn codes(&self) -> impl Iterator<Item = usize> + '_ {
-        self.places().filter_map(|(at, f)| if let Field::Code(..) = f { Some(at) } else { None })
+    /// Offsets of the bytes of which some values are refused, each with the highest value that is not; for a list, the offsets in each record.
+    pub fn codes(&self) -> impl Iterator<Item = (usize, u8)> + '_ {
+        self.places().filter_map(|(at, f)| if let Field::Code(_, highest) = f { Some((at, highest)) } else { None })
     }
 
     /// The first byte that a payload has to have if its tail is not to be cut off.

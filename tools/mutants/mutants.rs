@@ -1,19 +1,19 @@
 //! Tries the comparison on wrong archives: mutants COMPARE
-//! COMPARE is the comparison, linked with the stand-in. It has to find no difference in the stand-in as it is, and one at least in each mutant
-//! that is not listed with a reason. Exits with 1 if a mutant passes that is not listed, one that is listed is noticed, or a kind, or a row that
-//! a kind can give, has no mutant.
+//! COMPARE is the comparison, linked with the stand-in. It has to find no difference in the stand-in as it is, and to show of each mutant what
+//! wrong.rs says: differences, memory that is touched, a run without its end, or nothing for a reason. Exits with 1 if something else is shown,
+//! or if a kind has no mutant but those that leave out its rows.
 use judge::kinds::KINDS;
 use std::io::Read;
 use std::process::{Child, Command, Stdio};
 use std::sync::atomic::{AtomicUsize, Ordering};
 use std::sync::Mutex;
 use std::time::{Duration, Instant};
-use wrong::{all, Mutant};
+use wrong::{all, Mutant, Shows};
 
 /// A run ends at so many differences.
 const STOP: u64 = 1_000;
-/// A run that takes longer is held to have no end: of one code byte, which takes some 20 s at most, and of all.
-const LIMITS: [Duration; 2] = [Duration::from_secs(120), Duration::from_secs(1_200)];
+/// A run of one code byte takes some 20 s at most. One that is to have no end is ended after a minute, any other after 20.
+const LIMITS: [Duration; 2] = [Duration::from_secs(60), Duration::from_secs(1_200)];
 const LEAST: usize = 80;
 
 enum Outcome {
@@ -44,7 +44,7 @@ fn before(word: &str, line: &str) -> Option<u64> {
 }
 
 /// Runs the comparison, and looks at its status and its last line.
-fn run(compare: &str, args: &[&str], mutant: Option<usize>) -> Outcome {
+fn run(compare: &str, args: &[&str], mutant: Option<usize>, limit: Duration) -> Outcome {
     let mut command = Command::new(compare);
     command.args(args).stdout(Stdio::piped()).stderr(Stdio::null()).env_remove("MUTANT");
     if let Some(number) = mutant {
@@ -57,7 +57,6 @@ fn run(compare: &str, args: &[&str], mutant: Option<usize>) -> Outcome {
         out.read_to_string(&mut said).expect("text");
         said
     });
-    let limit = LIMITS[usize::from(args.is_empty())];
     let status = ended(child, limit);
     let said = reader.join().expect("what a run said");
     let last = said.lines().last().unwrap_or("");
@@ -79,19 +78,19 @@ fn number(n: u64) -> String {
     groups.join(",")
 }
 
-/// What is printed of a mutant, and whether the outcome is as it has to be.
+/// What is printed of a mutant, and whether that is what it has to show.
 fn verdict(m: &Mutant, o: &Outcome) -> (String, bool) {
-    let (said, noticed) = match o {
-        Outcome::Passed(cases) => (format!("PASSES {} cases", number(*cases)), false),
-        Outcome::Noticed(1) => ("1 case".into(), true),
-        Outcome::Noticed(n) => (format!("{} cases", number(*n)), true),
-        Outcome::Stopped => (format!("{} cases or more", number(STOP)), true),
-        Outcome::Touched => ("memory that must not be touched".into(), true),
-        Outcome::NoEnd(why) => (why.clone(), true),
+    let (said, shown) = match o {
+        Outcome::Passed(cases) => (format!("PASSES {} cases", number(*cases)), Shows::Nothing("")),
+        Outcome::Noticed(1) => ("1 case".into(), Shows::Differences),
+        Outcome::Noticed(n) => (format!("{} cases", number(*n)), Shows::Differences),
+        Outcome::Stopped => (format!("{} cases or more", number(STOP)), Shows::Differences),
+        Outcome::Touched => ("memory that must not be touched".into(), Shows::Touched),
+        Outcome::NoEnd(why) => (why.clone(), Shows::NoEnd),
     };
-    match m.reason {
-        Some(why) => (format!("{said}; listed: {why}"), !noticed),
-        None => (said, noticed),
+    match m.shows {
+        Shows::Nothing(why) => (format!("{said}; listed: {why}"), shown == Shows::Nothing("")),
+        wanted => (said, shown == wanted),
     }
 }
 
@@ -101,27 +100,31 @@ fn place(m: &Mutant) -> String {
     format!("{:<7} {code:02X} {name}", side.name())
 }
 
-/// Kinds without a mutant, and rows that a kind can give and that no mutant of it leaves out.
-fn lacking(mutants: &[Mutant]) -> Vec<String> {
-    let of = |k: &judge::kinds::Kind, row: usize| mutants.iter().any(|m| m.place == (k.side, k.code) && usize::from(m.row) == row);
-    let rows = |k: &judge::kinds::Kind| k.rows.iter().filter(|&&row| !of(k, row)).map(|row| format!("{}, row {row}", k.name)).collect::<Vec<_>>();
-    KINDS.iter().flat_map(|k| if of(k, 0) { rows(k) } else { vec![k.name.into()] }).collect()
+/// Kinds without a mutant but those that leave out a row.
+fn lacking(mutants: &[Mutant]) -> impl Iterator<Item = &'static str> + '_ {
+    KINDS.iter().filter(|k| !mutants.iter().any(|m| m.place == (k.side, k.code) && m.row == 0)).map(|k| k.name)
 }
 
-/// Prints a line for each mutant, as it is tried; returns those that are not as they have to be.
+/// Tries one mutant and prints a line of it; the line again if it does not show what it has to.
+fn try_one(compare: &str, i: usize, m: &Mutant) -> Option<String> {
+    let code = format!("{:02X}", m.place.1);
+    let args = ["--only", m.place.0.name(), &code, "--stop", &STOP.to_string()];
+    let limit = LIMITS[usize::from(m.shows != Shows::NoEnd)];
+    let (said, good) = verdict(m, &run(compare, &args, Some(i), limit));
+    let line = format!("{i:>3} {:<23} {}: {said}", place(m), m.what);
+    println!("{line}");
+    (!good).then_some(line)
+}
+
+/// Tries all, as many at a time as there are processors, and then those that are tried by themselves. Returns those that do not show what they
+/// have to.
 fn try_all(compare: &str, mutants: &[Mutant]) -> Vec<String> {
     let (next, failed) = (AtomicUsize::new(0), Mutex::new(Vec::new()));
+    let (last, first): (Vec<_>, Vec<_>) = mutants.iter().enumerate().partition(|(_, m)| m.by_itself);
     let work = || {
-        while let Some((i, m)) = Some(next.fetch_add(1, Ordering::Relaxed)).and_then(|i| Some((i, mutants.get(i)?))) {
-            let code = format!("{:02X}", m.place.1);
-            let outcome = run(compare, &["--only", m.place.0.name(), &code, "--stop", &STOP.to_string()], Some(i));
-            let (said, good) = verdict(m, &outcome);
-            let line = format!("{i:>3} {:<23} {}: {said}", place(m), m.what);
-            let mut failed = failed.lock().expect("no thread ends early");
-            println!("{line}");
-            if !good {
-                failed.push(line);
-            }
+        while let Some(&(i, m)) = first.get(next.fetch_add(1, Ordering::Relaxed)) {
+            let line = try_one(compare, i, m);
+            failed.lock().expect("no thread ends early").extend(line);
         }
     };
     std::thread::scope(|s| {
@@ -129,23 +132,25 @@ fn try_all(compare: &str, mutants: &[Mutant]) -> Vec<String> {
             s.spawn(work);
         }
     });
-    failed.into_inner().expect("no thread ends early")
+    let mut failed = failed.into_inner().expect("no thread ends early");
+    failed.extend(last.into_iter().filter_map(|(i, m)| try_one(compare, i, m)));
+    failed
 }
 
 fn main() {
     let compare = std::env::args().nth(1).expect("usage: mutants COMPARE");
     let start = Instant::now();
     let mutants = all();
-    let lacking = lacking(&mutants);
-    let Outcome::Passed(cases) = run(&compare, &[], None) else {
+    let lacking: Vec<&str> = lacking(&mutants).collect();
+    let Outcome::Passed(cases) = run(&compare, &[], None, LIMITS[1]) else {
         println!("mutants: the stand-in differs as it is, or the run of it broke off");
         std::process::exit(1)
     };
     println!("the stand-in as it is: {} cases, 0 differences", number(cases));
     let failed = try_all(&compare, &mutants);
     failed.iter().for_each(|line| println!("NOT AS IT HAS TO BE: {line}"));
-    lacking.iter().for_each(|what| println!("WITHOUT A MUTANT: {what}"));
-    let listed = mutants.iter().filter(|m| m.reason.is_some()).count();
+    lacking.iter().for_each(|name| println!("WITHOUT A MUTANT: {name}"));
+    let listed = mutants.iter().filter(|m| matches!(m.shows, Shows::Nothing(_))).count();
     println!(
         "mutants: {} wrong archives, {} not as they have to be, {listed} listed as passing; the stand-in as it is: 0 differences in {} cases; {} s",
         mutants.len(),

@@ -2,8 +2,8 @@
 # Tries the comparison of the four C calls on wrong libraries: run.sh [SOURCES]
 # SOURCES is as for tools/oracle/build.sh, which builds the original. Everything goes to build/. README.md says what is tried.
 set -euo pipefail
-here=$(cd "$(dirname "$0")" && pwd)
-root=$(cd "$here/../.." && pwd)
+here=$(cd "$(dirname "$0")" && pwd -P)
+root=$(cd "$here/../.." && pwd -P)
 [[ ${ALONE-} == "$root"/* ]] || exec "$root/tools/alone.py" "$0" "$@"
 RUST=${1-} "$root/tools/arguments.py" RUST
 out=$root/build/mutants

@@ -4,8 +4,8 @@
 # that of sources.sha256 is an error, unless CHANGED is yes in the environment.
 # Writes build/oracle/libosdp.rlib, libjudge.rlib and oracle, if they are not there or were made of other files.
 set -euo pipefail
-here=$(cd "$(dirname "$0")" && pwd)
-root=$(cd "$here/../.." && pwd)
+here=$(cd "$(dirname "$0")" && pwd -P)
+root=$(cd "$here/../.." && pwd -P)
 [[ ${ALONE-} == "$root"/* ]] || exec "$root/tools/alone.py" "$0" "$@"
 from=${1:-$root/../shared/docs/src}
 RUST=$from "$root/tools/arguments.py" RUST CHANGED

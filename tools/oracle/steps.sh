@@ -1,6 +1,6 @@
 # What compare.sh and vectors.sh share; they source it.
-here=$(cd "$(dirname "${BASH_SOURCE[0]}")" && pwd)
-root=$(cd "$here/../.." && pwd)
+here=$(cd "$(dirname "${BASH_SOURCE[0]}")" && pwd -P)
+root=$(cd "$here/../.." && pwd -P)
 out=$root/build/oracle
 [[ ${ALONE-} == "$root"/* ]] || exec "$root/tools/alone.py" "$0" "$@"
 
