@@ -78,6 +78,7 @@ test:
 	.ci/run
 
 compare: compare-vectors compare-calls
+	@echo "both runs passed: $$(cat build/oracle/done); $$(tail -n 1 build/compare/said)"
 
 compare-vectors: oracle
 	rt check vectors

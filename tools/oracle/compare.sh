@@ -10,7 +10,7 @@ seed=${3:-20261115}
 RUST=${1-} SCALE=$scale SEED=$seed "$root/tools/arguments.py" RUST SCALE SEED
 ready "${1-}"
 start=$SECONDS
-rm -f "$out/lines"
+rm -f "$out/lines" "$out/done"
 mkfifo "$out/lines"
 wc -l <"$out/lines" >"$out/made" &
 ended=(0 0 0 0)
@@ -25,4 +25,4 @@ if [ "${ended[*]}" != "0 0 0 0" ] || ! tallied "$out/said" "$made" || ! cmp -s "
     fail "$made cases were made; gen.py, tee, oracle and vectors ended with ${ended[*]}, and said the above"
 fi
 cat "$out/said"
-echo "compare-vectors: $made cases (scale $scale, seed $seed), made, answered and replayed in $((SECONDS - start)) s: 0 differ"
+echo "compare-vectors: $made cases (scale $scale, seed $seed), made, answered and replayed in $((SECONDS - start)) s: 0 differ" | tee "$out/done"
