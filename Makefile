@@ -15,7 +15,7 @@ help:
 	@echo "make compare      against the original Rust: compare-vectors, then compare-calls"
 	@echo "  compare-vectors   the Rust's answers to generated cases, replayed by the program vectors"
 	@echo "  compare-calls     the four C calls, in one process with the Rust"
-	@echo "make mutants      whether compare-calls notices what is wrong: libraries with one thing wrong each"
+	@echo "make mutants      whether compare-calls notices what is wrong: archives with one thing wrong each"
 	@echo "make bench        times and instructions against the original Rust, to build/bench"
 	@echo "  bench-selftest    whether wrong calls and missed targets are noticed"
 	@echo "make performance  as make bench, and writes docs/PERFORMANCE.md and docs/performance.svg"

@@ -199,7 +199,7 @@ fn timed() -> Vec<Case> {
     KINDS.iter().flat_map(|k| k.timed.iter().map(move |&n| (k, n))).map(|(k, n)| case(k, n)).collect()
 }
 
-/// Every kind refuses the empty payload, so that a call that accepts everything is found out.
+/// Every kind refuses the empty payload, so that a call that accepts everything is noticed.
 fn refused() -> Vec<Case> {
     KINDS.iter().map(|k| Case::new(k, Vec::new())).collect()
 }

@@ -17,11 +17,11 @@ pub const NO_ROOM: u8 = 15;
 const SHOWN: u64 = 10;
 /// How many bytes are watched on both sides of a buffer.
 const BESIDE: usize = 16;
-/// One payload in so many is also written to a buffer that is far longer than it has to be.
+/// One payload in so many is also given a buffer of the longest length, or of any from its need to 199 above the longest.
 const FAR: usize = 128;
 /// More than any length that has 32 bits.
 const WIDE: usize = (1 << 32) + 200_000;
-/// How much of a buffer that is as wide as that can be touched.
+/// How much of the memory for such buffers can be touched. Shorter ones end within it; what is behind them is watched too.
 const WIDE_FRONT: usize = 2 * LONGEST;
 
 pub static DIFFERENCES: AtomicU64 = AtomicU64::new(0);
@@ -123,14 +123,14 @@ impl Tester {
     /// Normalises into a buffer. `form` is what has to be written, empty if the call has to refuse.
     fn normalise(&mut self, l: Lent, b: Buffer, want: i32, form: &[u8]) {
         let fill = self.places.below(251);
-        let whole = unsafe { std::slice::from_raw_parts_mut(b.out.sub(b.before), b.before + b.watched) };
-        whole.copy_from_slice(&self.pattern[fill..][..whole.len()]);
+        let (front, len) = (unsafe { b.out.sub(b.before) }, b.before + b.watched);
+        unsafe { std::ptr::copy_nonoverlapping(self.pattern[fill..][..len].as_ptr(), front, len) };
         let null = b.room == 0 && self.places.below(2) == 0;
         let out = if null { std::ptr::null_mut() } else { b.out };
         let call = if self.side == Side::Command { osdp_normalise_command } else { osdp_normalise_reply };
         let got = unsafe { call(self.code, l.at, l.p.len(), out, b.room) };
         self.count.cases += 1;
-        let pattern = &self.pattern[fill..][..whole.len()];
+        let (whole, pattern) = (unsafe { std::slice::from_raw_parts(front, len) }, &self.pattern[fill..][..len]);
         let written = b.before + form.len();
         if got != want {
             self.differs("normalise", l.p, &format!("{want} into {} bytes", b.room), &got.to_string());
@@ -147,6 +147,7 @@ impl Tester {
         self.normalise(l, Buffer { out: self.out.at(offset), room, before, watched }, want, form);
     }
 
+    /// The length of a far longer buffer, if it is this payload's turn.
     fn far(&mut self, least: usize) -> Option<usize> {
         match self.places.below(2 * FAR) {
             0 => Some(LONGEST),
@@ -241,7 +242,7 @@ impl Tester {
         self.counted(row);
     }
 
-    /// A buffer that is longer than any payload. Only its front can be touched.
+    /// A buffer that is longer than any payload; of the memory there only the front can be touched.
     pub fn wide_room(&mut self, p: &[u8], room: usize) {
         let l = self.lend(p);
         let buffer = Buffer { out: self.wide_out.at(0), room, before: 0, watched: WIDE_FRONT };

@@ -80,7 +80,7 @@ fn try_all(o: &Options) -> Counts {
     counts.into_inner().expect("no thread ends early")
 }
 
-/// Prints a line of counts, and what is wrong with them.
+/// Prints a line of counts and what is wrong with them; returns whether nothing is. `can_be_changed` is None where nothing is accepted.
 fn line(name: &str, c: &Count, rows: &[usize], can_be_changed: Option<bool>) -> bool {
     print!("{name:<18} {:>10} {:>11} {:>9} {:>9}", c.payloads, c.cases, c.accepted, c.changed);
     for r in ROWS {

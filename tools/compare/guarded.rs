@@ -95,8 +95,8 @@ impl Region {
         }
     }
 
-    /// The offset of so many bytes: one time in eight right after the first forbidden page, one time in eight anywhere between, and else right
-    /// before the last forbidden page.
+    /// The offset of so many bytes: one time in eight right after the first forbidden page, one time in eight anywhere in the 4,096 bytes after
+    /// it, which has every alignment, and else right before the last forbidden page.
     pub fn offset(&self, bytes: usize, r: &mut Chance) -> usize {
         let end = self.len - bytes;
         match r.below(8) {

@@ -8,17 +8,21 @@ use std::sync::Barrier;
 /// Lengths above the longest: ones that become short again if they are cut to 16, 17 or 32 bits, or to 31 and a sign.
 const TOO_LONG: [usize; 11] =
     [65_549, 65_550, 70_000, 131_072, 131_082, 1 << 31, (1 << 31) + 14, 1 << 32, (1 << 32) + 4, (1 << 32) + 14, (1 << 32) + 65_546];
+/// Buffers longer than any payload, also ones that become short if their length is cut to 32 bits.
 const WIDE_ROOMS: [usize; 5] = [LONGEST + 1, 70_000, 1 << 31, 1 << 32, (1 << 32) + 1];
 /// How many lengths are drawn by chance for each kind; each makes six payloads.
 const BY_CHANCE: usize = 50_000;
 /// The records of a list in which each one is wrong, by all calls.
 const RECORDS: usize = 600;
-/// How many lengths are drawn by chance for each code byte, and how many payloads are tried on both sides in turn.
+/// How many lengths are drawn by chance for each code byte.
 const LENGTHS: usize = 50;
+/// How many payloads are tried on both sides in turn.
 const IN_TURN: usize = 300;
-/// How many bytes two threads normalise at the same time, each, in how many calls at least and at most, and payloads of which lengths.
+/// How many bytes each of two threads normalises at the same time.
 const AT_ONCE: usize = 800_000_000;
-const CALLS: [usize; 2] = [20_000, 300_000];
+/// In so many calls at most.
+const CALLS: usize = 300_000;
+/// Of payloads that have these lengths, or the nearest that the kind has.
 const SIZES: [usize; 8] = [1_000, 5_000, 10_000, 20_000, 30_000, 40_000, 50_000, LONGEST];
 
 pub fn of_code(side: Side, code: u8, seed: u64, stop: u64) -> Count {
@@ -86,7 +90,7 @@ fn some_lengths(t: &mut Tester, r: &mut Chance) {
     }
 }
 
-/// The same payloads under this code byte of both sides in turn. The counts of the other side are its own.
+/// The same payloads under this code byte of both sides in turn. Of the other side only the cases are counted: its outcomes are not this code byte's.
 fn in_turn(t: &mut Tester, mut other: Tester, r: &mut Chance) {
     for _ in 0..IN_TURN {
         let k = &KINDS[r.below(KINDS.len())];
@@ -123,8 +127,8 @@ fn every_value(t: &mut Tester, k: &Kind, r: &mut Chance) {
     }
 }
 
-/// Every value of two bytes side by side: of the fixed part of a short payload, or spread over the records of the longest list, where one that is
-/// refused would hide the others.
+/// Every value of two bytes side by side: of the fixed part of a short payload, or spread over the records of the longest list; there pairs with
+/// a code are left out, since one refused record would hide the others.
 fn every_pair(t: &mut Tester, k: &Kind, r: &mut Chance) {
     let list = k.step > 1;
     let p = k.clean(if list { k.most } else { k.near(k.least + 2) }, r);
@@ -222,7 +226,7 @@ fn by_chance(t: &mut Tester, k: &Kind, r: &mut Chance) {
         let n = r.size();
         let p = k.good(k.near(n), r);
         t.payload(&p);
-        k.damaged(&p, r).iter().filter(|q| q.len() <= LONGEST + 2).for_each(|q| t.payload(q));
+        k.damaged(&p, r).iter().for_each(|q| t.payload(q));
         t.payload(&r.bytes(n));
     }
 }
@@ -231,7 +235,7 @@ fn by_chance(t: &mut Tester, k: &Kind, r: &mut Chance) {
 fn at_once(t: &mut Tester, k: &Kind, r: &mut Chance, tester: impl Fn(u64) -> Tester + Sync) {
     let payloads = [(); 2].map(|_| SIZES.map(|n| k.clean(k.near(n), r)));
     let bytes: usize = payloads[0].iter().map(Vec::len).sum();
-    let calls = (AT_ONCE / bytes * SIZES.len()).clamp(CALLS[0], CALLS[1]);
+    let calls = (AT_ONCE / bytes * SIZES.len()).min(CALLS);
     let start = Barrier::new(2);
     let again = |half: usize| {
         let mut t = tester(half as u64);

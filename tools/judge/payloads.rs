@@ -18,7 +18,7 @@ impl Kind {
         [self.least, self.most, LONGEST]
     }
 
-    /// Most of these are accepted. n is a length that the kind can have.
+    /// One that is accepted. n is a length that the kind can have.
     pub fn good(&self, n: usize, r: &mut Chance) -> Vec<u8> {
         let mut p = r.bytes(n);
         let record = if self.step > 1 { self.step } else { n };

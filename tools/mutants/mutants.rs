@@ -1,7 +1,7 @@
 //! Tries the comparison on wrong archives: mutants COMPARE
 //! COMPARE is the comparison, linked with the stand-in. It has to find no difference in the stand-in as it is, and to show of each mutant what
 //! wrong.rs says: differences, memory that is touched, a run without its end, or nothing for a reason. Exits with 1 if something else is shown,
-//! or if a kind has no mutant but those that leave out its rows.
+//! if a kind has no mutant but those that leave out its rows, or if there are fewer than LEAST.
 use judge::kinds::KINDS;
 use std::io::Read;
 use std::process::{Child, Command, Stdio};
@@ -12,8 +12,11 @@ use wrong::{all, Mutant, Shows};
 
 /// A run ends at so many differences.
 const STOP: u64 = 1_000;
-/// A run of one code byte takes some 20 s at most. One that is to have no end is ended after a minute, any other after 20.
-const LIMITS: [Duration; 2] = [Duration::from_secs(60), Duration::from_secs(1_200)];
+/// A run of one code byte takes some 20 s at most. One that is to have no end is ended after this time,
+const NO_END_LIMIT: Duration = Duration::from_secs(60);
+/// and any other after this.
+const LIMIT: Duration = Duration::from_secs(1_200);
+/// There have to be so many wrong archives at least.
 const LEAST: usize = 80;
 
 enum Outcome {
@@ -39,7 +42,7 @@ fn ended(mut child: Child, limit: Duration) -> Option<std::process::ExitStatus> 
 }
 
 /// The number before a word of a line.
-fn before(word: &str, line: &str) -> Option<u64> {
+fn number_before(word: &str, line: &str) -> Option<u64> {
     line.split_once(word)?.0.rsplit(' ').next()?.parse().ok()
 }
 
@@ -61,9 +64,9 @@ fn run(compare: &str, args: &[&str], mutant: Option<usize>, limit: Duration) -> 
     let said = reader.join().expect("what a run said");
     let last = said.lines().last().unwrap_or("");
     let Some(status) = status else { return Outcome::NoEnd(format!("no end within {} s", limit.as_secs())) };
-    let found = before(" differences", last).filter(|_| last.starts_with("compare: "));
+    let found = number_before(" differences", last).filter(|_| last.starts_with("compare: "));
     match (status.code(), found) {
-        (Some(0), Some(0)) => Outcome::Passed(before(" cases", last).unwrap_or(0)),
+        (Some(0), Some(0)) => Outcome::Passed(number_before(" cases", last).unwrap_or(0)),
         (Some(1), Some(STOP)) => Outcome::Stopped,
         (Some(1), Some(n)) if n > 0 => Outcome::Noticed(n),
         (Some(1), _) if last.starts_with("DIFFERS: memory was touched") => Outcome::Touched,
@@ -100,16 +103,16 @@ fn place(m: &Mutant) -> String {
     format!("{:<7} {code:02X} {name}", side.name())
 }
 
-/// Kinds without a mutant but those that leave out a row.
+/// Kinds without a mutant of their own but those that leave out a row.
 fn lacking(mutants: &[Mutant]) -> impl Iterator<Item = &'static str> + '_ {
-    KINDS.iter().filter(|k| !mutants.iter().any(|m| m.place == (k.side, k.code) && m.row == 0)).map(|k| k.name)
+    KINDS.iter().filter(|k| !mutants.iter().any(|m| m.place == (k.side, k.code) && m.row == 0 && !m.everywhere)).map(|k| k.name)
 }
 
 /// Tries one mutant and prints a line of it; the line again if it does not show what it has to.
 fn try_one(compare: &str, i: usize, m: &Mutant) -> Option<String> {
     let code = format!("{:02X}", m.place.1);
     let args = ["--only", m.place.0.name(), &code, "--stop", &STOP.to_string()];
-    let limit = LIMITS[usize::from(m.shows != Shows::NoEnd)];
+    let limit = if m.shows == Shows::NoEnd { NO_END_LIMIT } else { LIMIT };
     let (said, good) = verdict(m, &run(compare, &args, Some(i), limit));
     let line = format!("{i:>3} {:<23} {}: {said}", place(m), m.what);
     println!("{line}");
@@ -142,7 +145,7 @@ fn main() {
     let start = Instant::now();
     let mutants = all();
     let lacking: Vec<&str> = lacking(&mutants).collect();
-    let Outcome::Passed(cases) = run(&compare, &[], None, LIMITS[1]) else {
+    let Outcome::Passed(cases) = run(&compare, &[], None, LIMIT) else {
         println!("mutants: the stand-in differs as it is, or the run of it broke off");
         std::process::exit(1)
     };

@@ -2,13 +2,13 @@
 use judge::kinds::{kind, Side, KINDS};
 use judge::read::{normalised, read_of_kind};
 use std::cell::UnsafeCell;
-use std::ptr::null;
 use std::sync::atomic::{AtomicU64, AtomicU8, Ordering::Relaxed};
 
 /// One call, and what the stand-in makes of it.
 pub struct Call<'a> {
     pub side: Side,
     pub code: u8,
+    /// Where the payload is lent; an Ask that changes `p` leaves this as it is.
     pub at: *const u8,
     pub p: &'a [u8],
     /// None: a check.
@@ -17,7 +17,7 @@ pub struct Call<'a> {
     /// The normal form, or the row of the refusal.
     pub answer: Result<Vec<u8>, u8>,
     pub returned: i32,
-    /// The mutant's row.
+    /// The row that the mutant leaves out, or 0.
     pub row: u8,
 }
 
@@ -71,6 +71,14 @@ impl Call<'_> {
         }
     }
 
+    /// The reader sees another last byte, and it is kept.
+    fn see_last(&mut self, b: u8) {
+        let seen = [&self.p[..self.n() - 1], &[b]].concat();
+        if normalised(self.side, self.code, &seen).is_ok() {
+            self.accept();
+        }
+    }
+
     /// Other bytes are written.
     fn give(&mut self, f: fn(usize, u8) -> u8) {
         if let Ok(form) = &mut self.answer {
@@ -81,6 +89,11 @@ impl Call<'_> {
     /// The answer to another code byte.
     fn as_code(&mut self, side: Side, code: u8) {
         self.answer = normalised(side, code, self.front()).map_err(|e| e.row);
+    }
+
+    /// Whether the buffer is NULL.
+    fn no_buffer(&self) -> bool {
+        self.out.is_some_and(|o| o.is_null())
     }
 
     /// Where the buffer is and where it ends.
@@ -148,6 +161,7 @@ pub struct Mutant {
     pub everywhere: bool,
     pub what: String,
     pub wrong: Wrong,
+    /// The row that it leaves out, or 0.
     pub row: u8,
     pub shows: Shows,
     /// It is tried while nothing else is, since it is noticed only if two threads are in a call at the same time.
@@ -187,8 +201,9 @@ fn colour(at: usize) -> bool {
 }
 
 pub fn all() -> Vec<Mutant> {
-    let families = [limits(), lengths(), values(), records(), behind(), on_refusal(), rooms(), order(), cut(), nulls(), codes(), memory(), answers(), hidden()];
-    families.into_iter().flatten().chain(KINDS.iter().flat_map(|k| each_row(k.name, &k.rows))).collect()
+    let by_content = [limits(), lengths(), values(), records(), order(), cut(), codes(), answers()];
+    let by_memory = [behind(), on_refusal(), rooms(), nulls(), memory(), hidden()];
+    by_content.into_iter().chain(by_memory).flatten().chain(KINDS.iter().flat_map(|k| each_row(k.name, &k.rows))).collect()
 }
 
 /// Each row of each kind is left out: 15 is a success that writes nothing, 28 is what the kind's own reader gives, and with another row the
@@ -205,13 +220,14 @@ fn each_row(name: &'static str, rows: &[usize]) -> Vec<Mutant> {
     rows.iter().map(left_out).collect()
 }
 
+/// Limits that are off by one.
 fn limits() -> Vec<Mutant> {
     vec![
         any("MFG", "a payload of 65,546 bytes is too long", Answer(|c| if c.n() == 65_546 && kind(c.side, c.code).is_some() { c.refuse(28) })),
         any("MFG", "a payload of 65,547 bytes is taken", Answer(|c| if c.n() == 65_547 && c.is_row(28) { c.accept() })),
         any("MFG", "65,547 and 65,548 bytes are too long, 65,549 and more are not", Answer(|c| if c.n() > 65_548 && c.is_row(28) { c.accept() })),
         of("TEXT", "255 bytes of text are refused", Answer(|c| if c.n() == 261 { c.refuse(6) })),
-        of("TEXT", "the length is held to 254 bytes at most", Answer(|c| if c.n() == 260 && c.b(5) == 255 { c.accept() })),
+        of("TEXT", "with the length 255, 254 bytes of text are taken too", Answer(|c| if c.n() == 260 && c.b(5) == 255 { c.accept() })),
         of("RAW", "65,535 bits are refused", Answer(|c| if c.u16(2) == 65_535 { c.refuse(6) })),
         of("RAW", "the bits are rounded down to bytes",
             Answer(|c| if c.n() >= 4 && c.n() - 4 == c.u16(2) / 8 { c.accept() } else if c.n() >= 4 { c.refuse(6) })),
@@ -246,6 +262,7 @@ fn limits() -> Vec<Mutant> {
     ]
 }
 
+/// One length of many.
 fn lengths() -> Vec<Mutant> {
     vec![
         of("LED", "a list of 4,095 records is refused", Answer(|c| if c.n() == 14 * 4_095 { c.refuse(5) })),
@@ -266,6 +283,7 @@ fn lengths() -> Vec<Mutant> {
     ]
 }
 
+/// One value, or a few, at one place or from one on.
 fn values() -> Vec<Mutant> {
     vec![
         of("TEXT", "byte 7F is taken at offset 200", Answer(|c| c.see(|at, b| if at == 200 && b == 0x7F { b'A' } else { b }))),
@@ -273,16 +291,16 @@ fn values() -> Vec<Mutant> {
             Answer(|c| c.see(|at, b| if at > 15 && (0x80..0xA0).contains(&b) { b'A' } else { b }))),
         of("TEXT", "byte FF is taken from offset 16 on", Answer(|c| c.see(|at, b| if at > 15 && b == 0xFF { b'A' } else { b }))),
         of("TEXT", "byte 00 is taken at the end",
-            Answer(|c| if c.is_row(8) && c.p[6..].iter().position(|&b| b == 0) == Some(c.n() - 7) { c.see(|at, b| if at > 5 && b == 0 { b'A' } else { b }) })),
+            Answer(|c| if c.is_row(8) && c.p.ends_with(b"\0") { c.see_last(b'A') })),
         of("TEXT", "byte 1F is taken in the last eight of a long text",
             Answer(|c| if c.n() == 261 { c.see(|at, b| if at > 252 && b == 0x1F { b'A' } else { b }) })),
-        of("TEXT", "the row 0xFE is written as FF", Answer(|c| c.give(|at, b| if at == 3 && b == 0xFE { 0xFF } else { b }))),
+        of("TEXT", "display row FE is written as FF", Answer(|c| c.give(|at, b| if at == 3 && b == 0xFE { 0xFF } else { b }))),
         of("LED", "the timer's high byte A7 is lost in record 3", Answer(|c| c.give(|at, b| if at == 3 * 14 + 8 && b == 0xA7 { 0 } else { b }))),
         of("LED", "colour FF is kept in the last place",
             Answer(|c| if let (Some(0xFF), Ok(f)) = (c.p.last(), &mut c.answer) { *f.last_mut().expect("a record") = 0xFF })),
         of("MFG", "byte 53 at offset 100 is written as 0", Answer(|c| c.give(|at, b| if at == 100 && b == 0x53 { 0 } else { b }))),
         of("MFG", "the OUI's second byte 80 loses its highest bit", Answer(|c| c.give(|at, b| if at == 1 && b == 0x80 { 0 } else { b }))),
-        of("FILETRANSFER", "byte FF of the offset is written as FE", Answer(|c| c.give(|at, b| if at == 7 && b == 0xFF { 0xFE } else { b }))),
+        of("FILETRANSFER", "the offset's third byte FF is written as FE", Answer(|c| c.give(|at, b| if at == 7 && b == 0xFF { 0xFE } else { b }))),
         of("FMT", "character 0D at offset 77 is written as 0A", Answer(|c| c.give(|at, b| if at == 77 && b == 0x0D { 0x0A } else { b }))),
         of("XRD", "byte FF at offset 270 is written as FE", Answer(|c| c.give(|at, b| if at == 270 && b == 0xFF { 0xFE } else { b }))),
         of("RAW", "the padding bits of the last byte are cleared",
@@ -301,10 +319,11 @@ fn values() -> Vec<Mutant> {
     ]
 }
 
+/// One record of many, or some.
 fn records() -> Vec<Mutant> {
     vec![
         of("OUT", "code FF is taken from record 2 on", Answer(|c| c.see(|at, b| if at > 7 && at % 4 == 1 && b == 0xFF { 0 } else { b }))),
-        of("OUT", "codes are looked at in the first 4,096 records",
+        of("OUT", "codes are looked at only in the first 4,096 records",
             Answer(|c| c.see(|at, b| if at >= 4 * 4_096 && at % 4 == 1 { b % 7 } else { b }))),
         of("OUT", "the last record's code is not looked at",
             Answer(|c| if c.is_row(7) && c.p[..c.n() - 4].chunks(4).all(|r| r[1] < 7) { c.accept() })),
@@ -317,7 +336,7 @@ fn records() -> Vec<Mutant> {
         of("OUT", "the timer's bytes are exchanged in record 3", Answer(|c| if let Ok(f) = &mut c.answer { if f.len() > 15 { f.swap(14, 15) } })),
         of("LED", "the colours of record 500 are kept",
             Answer(|c| if let (true, Ok(f)) = (c.p.len() > 14 * 500, &mut c.answer) { f[14 * 500..][..14].copy_from_slice(&c.p[14 * 500..][..14]) })),
-        of("LED", "colours are folded in the first 255 records",
+        of("LED", "colours are folded only in the first 255 records",
             Answer(|c| if let (true, Ok(f)) = (c.p.len() > 14 * 255, &mut c.answer) { f[14 * 255..].copy_from_slice(&c.p[14 * 255..]) })),
         of("LED", "the last colour of a record is kept", Answer(|c| c.see(|at, b| if at % 14 == 13 { b % 8 } else { b }))),
         of("LED", "record 17 is written as record 16",
@@ -327,11 +346,12 @@ fn records() -> Vec<Mutant> {
     ]
 }
 
+/// Bytes that a success has to leave.
 fn behind() -> Vec<Mutant> {
     vec![
         any("XRD", "the byte behind the written ones is cleared",
             After(|c| if c.returned > 0 { c.behind().iter_mut().take(1).for_each(|b| *b = 0) })),
-        any("MFG", "bytes behind are cleared if 4,096 are there",
+        any("MFG", "the first 16 bytes behind are cleared if 4,096 are there",
             After(|c| if c.returned > 0 && c.behind().len() >= 4_096 { c.behind()[..16].fill(0) })),
         any("BIOREAD", "the last byte of 65,546 is changed",
             After(|c| if c.returned > 0 && c.room == 65_546 { c.behind().iter_mut().last().map(|b| *b ^= 1); })),
@@ -340,15 +360,16 @@ fn behind() -> Vec<Mutant> {
             After(|c| if c.returned == 1 && c.n() >= 92 && c.room >= c.n() { c.put(c.p) })),
         of("NAK", "completion codes that are cut off are in a buffer of more than 65,745 bytes",
             After(|c| if c.returned == 1 && c.room > 65_745 { c.put(c.p) })),
-        any("FMT", "the byte in front of the buffer is changed",
+        any("FMT", "the byte in front of the buffer is changed, unless the buffer begins a page",
             After(|c| if c.returned > 0 && c.ends()[0] % 4096 != 0 { unsafe { *c.out.expect("a buffer").sub(1) ^= 1 } })),
         shows(Shows::Touched, any("FMT", "the byte after the buffer is changed",
             After(|c| if c.returned > 0 { unsafe { *c.out.expect("a buffer").add(c.room) ^= 1 } }))),
-        of("OUT", "lists are written in steps of 16 bytes",
+        of("OUT", "12 bytes behind a list are cleared if its length is no multiple of 16",
             After(|c| if c.returned > 0 && c.returned % 16 != 0 && c.behind().len() >= 12 { c.behind()[..12].fill(0) })),
     ]
 }
 
+/// Bytes that a refusal has to leave.
 fn on_refusal() -> Vec<Mutant> {
     vec![
         any("LED", "with row 15 the first byte is changed", After(|c| if c.returned == -15 { c.buffer().iter_mut().take(1).for_each(|b| *b = !*b) })),
@@ -356,7 +377,7 @@ fn on_refusal() -> Vec<Mutant> {
         any("MFG", "with row 15 what fits is written, except with one byte too few",
             After(|c| if let Some(f) = c.too_large().filter(|f| c.room + 1 < f.len()) { c.put(&f) })),
         of("TEXT", "with row 8 the fields are written", After(|c| if c.returned == -8 { c.put(&c.p[..6]) })),
-        of("OUT", "with row 7 the records before it are written",
+        of("OUT", "with row 7 the records before the refused one are written",
             After(|c| if c.returned == -7 { let k = c.p.chunks(4).position(|r| r[1] > 6).unwrap_or(0); c.put(&c.p[..4 * k]) })),
         any("MFG", "with row 28 of 65,549 bytes and more a byte is changed if the room is above 64",
             After(|c| if c.returned == -28 && c.n() > 65_548 && c.room > 64 { c.buffer()[64] ^= 1 })),
@@ -368,26 +389,28 @@ fn on_refusal() -> Vec<Mutant> {
     ]
 }
 
+/// Rooms.
 fn rooms() -> Vec<Mutant> {
     vec![
         any("BIOMATCHR", "one byte too few suffices",
             After(|c| if let Some(f) = c.too_large().filter(|f| c.room + 1 == f.len()) { c.put(&f); c.returned = f.len() as i32 })),
         any("FMT", "one byte more is needed", After(|c| if c.returned > 0 && c.returned as usize == c.room { c.returned = -15 })),
-        any("MFG", "the room is held to be too short only if it is half of the need",
+        any("MFG", "the room is too short only if it is half of the need or less",
             After(|c| if c.returned == -15 && c.room > c.need() / 2 { c.returned = c.need() as i32 })),
         any("XRD", "7 bytes suffice for any payload", After(|c| if c.returned == -15 && c.room == 7 { c.returned = 7 })),
         any("BIOREADR", "row 15 if the room is below the payload's length, before the payload is read",
             Answer(|c| if c.out.is_some() && c.room < c.n() { c.refuse(15) })),
         any("BIOREAD", "a room of more than 65,535 bytes is cut to 16 bits", Ask(|c| c.room &= 0xFFFF)),
         any("BIOREAD", "a room of 4 GiB and more is cut to 32 bits", Ask(|c| c.room &= 0xFFFF_FFFF)),
-        any("LED", "a refusal is row 15 if the room has 4 GiB", After(|c| if c.returned < 0 && c.room >= 1 << 32 { c.returned = -15 })),
+        any("LED", "a refusal is row 15 if the room has 4 GiB or more", After(|c| if c.returned < 0 && c.room >= 1 << 32 { c.returned = -15 })),
         any("BIOREAD", "a room of 2 GiB and more is negative", Ask(|c| if c.room >= 1 << 31 { c.room = 0 })),
-        any("XRD", "a room of 1,000 times the need is refused", After(|c| if c.returned > 0 && c.room >= 1_000 * c.need() { c.returned = -15 })),
+        any("XRD", "a room of 1,000 times the need or more is refused", After(|c| if c.returned > 0 && c.room >= 1_000 * c.need() { c.returned = -15 })),
         of("NAK", "a NAK that is cut needs room for all of it",
             Answer(|c| if c.out.is_some() && c.answer.is_ok() && c.room < c.n() { c.refuse(15) })),
     ]
 }
 
+/// Another row than the first that applies.
 fn order() -> Vec<Mutant> {
     vec![
         of("TEXT", "the command comes before the text", Answer(|c| if c.is_row(8) && !(1..=4).contains(&c.b(1)) { c.refuse(9) })),
@@ -405,6 +428,7 @@ fn order() -> Vec<Mutant> {
     ]
 }
 
+/// Lengths and sums in fewer bits.
 fn cut() -> Vec<Mutant> {
     vec![
         any("MFG", "the length is cut to 16 bits", Ask(|c| c.p = &c.p[..c.p.len() & 0xFFFF])),
@@ -414,35 +438,37 @@ fn cut() -> Vec<Mutant> {
         of("RAW", "the count and 7 are added in 16 bits",
             Answer(|c| if c.u16(2) > 65_528 && c.n() >= 4 { if c.n() == 4 { c.accept() } else { c.refuse(6) } })),
         of("TEXT", "6 and the length are added in 8 bits",
-            Answer(|c| if c.n() >= 6 { if c.n() == usize::from(c.b(5).wrapping_add(6)) && c.b(5) > 249 { c.accept() } else if c.b(5) > 249 { c.refuse(6) } })),
+            Answer(|c| if c.n() >= 6 && c.b(5) > 249 { c.refuse(6) })),
         of("FILETRANSFER", "the length's high byte is not read",
             Answer(|c| if c.n() >= 11 { if c.n() == 11 + usize::from(c.b(9)) { c.accept() } else { c.refuse(6) } })),
         of("BIOMATCH", "the length is read high byte first",
-            Answer(|c| if c.n() >= 6 && c.n() - 6 != 256 * usize::from(c.b(4)) + usize::from(c.b(5)) { c.refuse(6) })),
+            Answer(|c| if c.n() >= 6 { if c.n() - 6 == c.u16(4).swap_bytes() >> 48 { c.accept() } else { c.refuse(6) } })),
         of("FILETRANSFER", "11 and the length are added in 16 bits",
-            Answer(|c| if c.n() >= 11 && c.u16(9) > 65_524 { if c.n() == (11 + c.u16(9)) & 0xFFFF { c.accept() } else { c.refuse(6) } })),
+            Answer(|c| if c.n() >= 11 && c.u16(9) > 65_524 { c.refuse(6) })),
         of("OUT", "records are counted in a byte",
             Answer(|c| if c.n() > 4 * 255 { let n = 4 * (c.n() / 4 % 256); if let Ok(f) = &mut c.answer { f.truncate(n) } })),
         any("MFG", "65,536 bytes are taken for none", Ask(|c| if c.p.len() == 65_536 { c.p = &[] })),
     ]
 }
 
+/// NULL.
 fn nulls() -> Vec<Mutant> {
     vec![
         shows(Shows::Touched, any("FMT", "an empty payload at NULL is read", After(|c| if c.at.is_null() { unsafe { c.at.read_volatile(); } }))),
-        shows(Shows::Touched, any("command 60", "an empty payload at NULL is read if the code is not carried",
+        shows(Shows::Touched, any("command 60", "an empty payload at NULL is read if the code byte is no kind's",
             After(|c| if c.at.is_null() && kind(c.side, c.code).is_none() { unsafe { c.at.read_volatile(); } }))),
         shows(Shows::Touched, any("FMT", "an empty buffer at NULL is written",
-            After(|c| if c.out.is_some_and(|o| o.is_null()) { unsafe { c.out.expect("NULL").write_volatile(0) } }))),
-        any("FMT", "row 28 if both are NULL", After(|c| if c.at.is_null() && c.out.is_some_and(|o| o.is_null()) { c.returned = -28 })),
-        any("reply 00", "row 4 if both are NULL, and the code is not carried",
-            After(|c| if c.at.is_null() && c.out.is_some_and(|o| o.is_null()) && kind(c.side, c.code).is_none() { c.returned = -4 })),
-        any("RAW", "an empty payload is refused otherwise if it is not at NULL", After(|c| if c.n() == 0 && !c.at.is_null() { c.returned = -6 })),
+            After(|c| if c.no_buffer() { unsafe { c.out.expect("NULL").write_volatile(0) } }))),
+        any("FMT", "row 28 if both are NULL", After(|c| if c.at.is_null() && c.no_buffer() { c.returned = -28 })),
+        any("reply 00", "row 4 if both are NULL, and the code byte is no kind's",
+            After(|c| if c.at.is_null() && c.no_buffer() && kind(c.side, c.code).is_none() { c.returned = -4 })),
+        any("RAW", "an empty payload that is not at NULL is row 6", After(|c| if c.n() == 0 && !c.at.is_null() { c.returned = -6 })),
         any("MFG", "no room at NULL is taken for enough",
-            After(|c| if c.returned == -15 && c.out == Some(null::<u8>().cast_mut()) { c.returned = c.need() as i32 })),
+            After(|c| if c.returned == -15 && c.no_buffer() { c.returned = c.need() as i32 })),
     ]
 }
 
+/// Codes that are not carried, and kinds under other codes.
 fn codes() -> Vec<Mutant> {
     vec![
         of("reply 45", "PDID of 12 bytes is taken", Answer(|c| if c.n() == 12 { c.accept() })),
@@ -460,7 +486,7 @@ fn codes() -> Vec<Mutant> {
         of("BIOMATCH", "4 bytes are taken as BIOREAD", Answer(|c| if c.n() == 4 { c.as_code(Side::Command, 0x73) })),
         of("OUT", "28 bytes that are refused are taken as LED", Answer(|c| if c.n() == 28 && c.is_row(7) { c.as_code(Side::Command, 0x69) })),
         of("BIOMATCHR", "read as BIOREAD from 4 bytes on", Answer(|c| if c.n() > 3 { c.as_code(Side::Command, 0x73) })),
-        of("XRD", "refused with MFG's least length", Answer(|c| c.as_code(Side::Command, 0x80))),
+        of("XRD", "read as MFG, whose least length is 3", Answer(|c| c.as_code(Side::Command, 0x80))),
         any("command 45", "an unknown code gives row 28 above 300 bytes", Answer(|c| if c.is_row(1) && c.n() > 300 { c.refuse(28) })),
     ]
 }
@@ -475,7 +501,7 @@ static SEEN: AtomicU64 = AtomicU64::new(0);
 /// A code byte and its side, or more than any.
 static SIDE: AtomicU64 = AtomicU64::new(u64::MAX);
 
-/// The side of the call before, if that had the same code byte.
+/// The side of the first of the calls in a row that have this code byte.
 fn side_of(c: &Call) -> Side {
     let this = u64::from(c.code) << 1 | c.side as u64;
     let last = SIDE.load(Relaxed);
@@ -499,6 +525,7 @@ fn by_scratch(c: &mut Call) {
     }
 }
 
+/// Shared memory, places of payload and buffer, reading where nothing is, and runs without an end.
 fn memory() -> Vec<Mutant> {
     vec![
         any("RAW", "what a code byte is, is remembered without its side",
@@ -520,7 +547,7 @@ fn memory() -> Vec<Mutant> {
         any("XRD", "a payload of 64 bytes and more is refused if its place is a multiple of 64",
             After(|c| if c.n() > 63 && c.at as usize % 64 == 0 { c.returned = -28 })),
         any("XRD", "the first byte is wrong if the buffer begins a page",
-            After(|c| if c.returned > 1 && c.ends()[0] % 4096 == 0 { c.buffer()[0] ^= 1 })),
+            After(|c| if c.returned > 0 && c.ends()[0] % 4096 == 0 { c.buffer()[0] ^= 1 })),
         shows(Shows::Touched, any("RAW", "the payload is written, and put back",
             After(|c| if c.n() > 0 { unsafe { let at = c.at.cast_mut(); at.write_volatile(at.read_volatile()) } }))),
         shows(Shows::Touched, any("FMT", "the byte after the payload is read",
@@ -536,6 +563,7 @@ fn memory() -> Vec<Mutant> {
     ]
 }
 
+/// Answers that are wrong throughout.
 fn answers() -> Vec<Mutant> {
     vec![
         any("FMT", "a check that passes answers 1", After(|c| if c.out.is_none() && c.returned == 0 { c.returned = 1 })),

@@ -1,5 +1,5 @@
-// The readers, for tools/bench to time: a call for each kind reads a payload's record and its tail, and answers with a number that each field
-// and the tail change, or with the refusal's number negated. The contracts say when it is which, and not which number it is.
+// The readers, for tools/bench to time: a call for each kind reads a payload's record and its tail, and answers with a number that each field,
+// the tail's length and its last byte change, or with the refusal's number negated. The contracts say when it is which, and not which number it is.
 use crate::number::answer;
 use crate::number::refused;
 use crate::number::sum;

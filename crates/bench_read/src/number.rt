@@ -12,7 +12,7 @@ pub(crate) fn sum(a: u8, b: u8, c: u8, d: u8, e: u8) -> u64 {
     a as u64 + b as u64 + c as u64 + d as u64 + e as u64
 }
 
-// The number in 31 bits; all of its first 62 decide them.
+// The number in 31 bits, which its lowest 62 bits decide.
 pub(crate) fn answer(n: u64) -> i32
     ensures { λ r. ⌜ NotNegative r ⌝ }
 {
