@@ -153,6 +153,9 @@ fn main() {
     let failed = try_all(&compare, &mutants);
     failed.iter().for_each(|line| println!("NOT AS IT HAS TO BE: {line}"));
     lacking.iter().for_each(|name| println!("WITHOUT A MUTANT: {name}"));
+    if mutants.len() < LEAST {
+        println!("FEWER THAN {LEAST} WRONG ARCHIVES");
+    }
     let listed = mutants.iter().filter(|m| matches!(m.shows, Shows::Nothing(_))).count();
     println!(
         "mutants: {} wrong archives, {} not as they have to be, {listed} listed as passing; the stand-in as it is: 0 differences in {} cases; {} s",

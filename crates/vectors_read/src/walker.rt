@@ -39,9 +39,7 @@ fn holds(c: Case, held: &[u8], p: &[u8]) -> bool {
 pub fn run(c: Case, p: &[u8], want: &[u8]) -> bool {
     let moved = step_at(p, c.argument);
     let step = moved.step;
-    c.row == 0
-        && right(true, step, moved.offset, c.argument, 0, want)
-        && walks(p, c.argument, want)
+    c.row == 0 && right(true, step, moved.offset, c.argument, 0, want) && walks(p, c.argument, want)
 }
 
 // Whether a walker at a place hands out the wanted records and then none.
