@@ -6,8 +6,9 @@ usage: names.py [--program PROGRAM] [--selftest] [SOURCES]
 Proofs, and the comparison with the Rust, go from byte to code to byte. Neither notices two names exchanged in a definition and its code together.
 This compares names and bytes with the original Rust in SOURCES (by default ../shared/docs/src beside the repository). Of each of eight enums:
 the definition that the contracts of from_byte and as_byte name, with its answer to other bytes; its list of codes and the enum, both in the
-Rust's order; every arm of from_byte and as_byte; and the names that PROGRAM (by default target/bin/inspect) shows. Of each kind: its CODE and
-its row of kinds.txt. Prints a line for each difference and exits with 1 if there is any. To find nothing in a place is a difference.
+Rust's order; every arm of from_byte and as_byte; and the names that PROGRAM (by default target/bin/inspect) shows. Of each kind: its CODE, its row
+of kinds.txt, and its place in the lists of osdp.h and README.md. Prints a line for each difference and exits with 1 if there is any. To find nothing
+in a place is a difference.
 
 --selftest exchanges two names or numbers in copies of the files, or in what PROGRAM says, and exits with 1 if one exchange is not noticed.
 """
@@ -21,6 +22,7 @@ from pathlib import Path
 
 top = Path(__file__).resolve().parent.parent
 SPECS, CODE, KINDS = "crates/*/specs/**/*.antt", "crates/*/src/**/*.rt", "tools/kinds.txt"
+HEADER, README = "include/osdp.h", "README.md"
 OTHER = "other bytes"
 # an enum, its file in the Rust, a line for inspect with a byte to fill in, and what inspect says before the number and the name;
 # None if they are in the title
@@ -147,6 +149,13 @@ def of_enum(root, code, enum, names, other):
     return [d for place, wanted, found in compared for d in differences(enum, place, wanted, found)]
 
 
+def listed(path):
+    """Name, side and code of the kinds in the paragraph of a text that begins `commands LED 0x69` and goes on with the replies."""
+    found = re.search(r"\bcommands\s+[A-Z]+ 0x.*?\n[ *]*\n", path.read_text(encoding="utf-8"), re.S)
+    parts = re.split(r"\breplies\b", found[0]) if found else []
+    return [(name, f"{side} 0x{byte}") for side, part in zip(("command", "reply"), parts) for name, byte in re.findall(r"\b([A-Z]+) 0x(\w+)", part)]
+
+
 def of_kinds(root, code, codes):
     """The differences of the kinds that have a CODE or a row in kinds.txt, and how many kinds there are."""
     types = [found for text in code.values() for found in re.findall(r"^impl (\w+) \{(.*?)^\}", text, re.M | re.S)]
@@ -155,7 +164,9 @@ def of_kinds(root, code, codes):
     rows = [(name, f"{side} 0x{byte}") for name, side, byte, *_ in lines]
     kinds = {name: codes[name] for name, _ in constants + rows if name in codes}
     sideless = [(name, code.split()[1]) for name, code in kinds.items()]
-    return differences("kind", "CODE", sideless, constants) + differences("kind", "kinds.txt", kinds, rows), len(kinds)
+    lists = [("kinds.txt", rows), ("osdp.h", listed(root / HEADER)), ("README.md", listed(root / README))]
+    found = [d for place, there in lists for d in differences("kind", place, kinds, there)]
+    return differences("kind", "CODE", sideless, constants) + found, len(kinds)
 
 
 def compare(root, rust, inspect):
@@ -188,6 +199,8 @@ def trials(rust):
             yield enum, {place: edits[place] for place in exchanged}
     yield "kind", {"CODE": (CODE, " +pub const CODE: u8 = ", "0x73", "0x74")}
     yield "kind", {"kinds.txt": (KINDS, "(?:LED|OUT) ", "LED", "OUT")}
+    yield "kind", {"osdp.h": (HEADER, r" \* ", "LED", "OUT")}
+    yield "kind", {"README.md": (README, " +replies", "RAW", "FMT")}
 
 
 def edited(text, files, edits):
@@ -203,7 +216,7 @@ def selftest(root, rust, inspect):
     before, wrong, count = set(), 0, 0
     for enum, edits in trials(rust):
         with tempfile.TemporaryDirectory() as folder:
-            for files, path in ((files, path) for files in (SPECS, CODE, KINDS) for path in root.glob(files)):
+            for files, path in ((files, path) for files in (SPECS, CODE, KINDS, HEADER, README) for path in root.glob(files)):
                 copy = Path(folder) / path.relative_to(root)
                 copy.parent.mkdir(parents=True, exist_ok=True)
                 copy.write_text(edited(path.read_text(encoding="utf-8"), files, edits.values()), encoding="utf-8")
@@ -242,7 +255,8 @@ def main():
     for enum, name, place, had, there in found:
         print(f"{enum} {name}, {place}: the Rust has {had}, there is {there}")
     if not found:
-        print(f"{len(ENUMS)} enums, {names} names, {kinds} kinds: definitions, lists, enums, from_byte, as_byte, inspect, CODE, kinds.txt: the Rust's")
+        print(f"{len(ENUMS)} enums, {names} names, {kinds} kinds: definitions, lists, enums, from_byte, as_byte, inspect, CODE, kinds.txt, osdp.h, "
+              "README.md: the Rust's")
     sys.exit(1 if found else 0)
 
 

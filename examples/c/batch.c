@@ -26,7 +26,7 @@ struct trial {
     struct bytes form;   /* what normalise has to write; if empty, the payload's own first bytes */
 };
 
-/* The payloads to try (R8 of docs/REQUIREMENTS.md), and the rows of the refusal table that these calls give. */
+/* The payloads to try (R8 of docs/REQUIREMENTS.md), those of R101, and the rows of the refusal table that these calls give. */
 static const struct trial trials[] = {
     { .what = "LED, green over black, then red", .code = 0x69, .payload = BYTES(0, 0, 2, 5, 5, 2, 0, 0x64, 0, 1, 1, 0, 1, 1), .normalised = 14 },
     { .what = "LED, colour 8", .code = 0x69, .payload = BYTES(0, 0, 2, 5, 5, 8, 0, 0x64, 0, 1, 1, 0, 1, 1), .normalised = 14,
@@ -55,6 +55,12 @@ static const struct trial trials[] = {
     { .what = "MFG, the longest", .code = 0x80, .payload = BYTES(0, 6, 0x8E), .filled_to = OSDP_LONGEST, .normalised = OSDP_LONGEST },
     { .what = "MFG, a byte too long", .code = 0x80, .payload = BYTES(0, 6, 0x8E), .filled_to = OSDP_LONGEST + 1, .checked = -OSDP_TOO_LONG,
       .normalised = -OSDP_TOO_LONG },
+    { .what = "COMSET, address 1, 115200 baud", .code = 0x6E, .payload = BYTES(1, 0x00, 0xC2, 0x01, 0x00), .normalised = 5 },
+    { .what = "COMSET, address 0x7F, 9600 baud", .code = 0x6E, .payload = BYTES(0x7F, 0x80, 0x25, 0, 0), .normalised = 5 },
+    { .what = "COMSET, 4 bytes", .code = 0x6E, .payload = BYTES(1, 0x80, 0x25, 0), .checked = -OSDP_LENGTH, .normalised = -OSDP_LENGTH },
+    { .what = "ACURXSIZE, 1440 bytes", .code = 0x7B, .payload = BYTES(0xA0, 0x05), .normalised = 2 },
+    { .what = "KEEPACTIVE, 1000 ms", .code = 0xA7, .payload = BYTES(0xE8, 0x03), .normalised = 2 },
+    { .what = "KEEPACTIVE into 1 byte", .code = 0xA7, .payload = BYTES(0xE8, 0x03), .room_less = 1, .normalised = -OSDP_NO_ROOM },
     { .what = "POLL", .code = 0x60, .checked = -OSDP_NOT_CARRIED, .normalised = -OSDP_NOT_CARRIED },
     { .what = "no command", .code = 0x63, .checked = -OSDP_UNKNOWN_COMMAND, .normalised = -OSDP_UNKNOWN_COMMAND },
     { .what = "RAW, no bits", .is_reply = 1, .code = 0x50, .payload = BYTES(0, 0, 0, 0), .normalised = 4 },
@@ -73,6 +79,17 @@ static const struct trial trials[] = {
     { .what = "NAK, error 10", .is_reply = 1, .code = 0x41, .payload = BYTES(0x0A), .checked = -OSDP_NAK_ERROR, .normalised = -OSDP_NAK_ERROR },
     { .what = "NAK, empty", .is_reply = 1, .code = 0x41, .checked = -OSDP_TOO_SHORT, .normalised = -OSDP_TOO_SHORT },
     { .what = "XRD without a tail", .is_reply = 1, .code = 0xB1, .payload = BYTES(1), .normalised = 1 },
+    { .what = "KEYPAD, 1 2 3 4 and enter", .is_reply = 1, .code = 0x53, .payload = BYTES(0, 5, '1', '2', '3', '4', 0x0D), .normalised = 7 },
+    { .what = "KEYPAD, a digit too few", .is_reply = 1, .code = 0x53, .payload = BYTES(0, 5, '1', '2', '3', '4'),
+      .checked = -OSDP_DECLARED_LENGTH, .normalised = -OSDP_DECLARED_LENGTH },
+    { .what = "KEYPAD without its count", .is_reply = 1, .code = 0x53, .payload = BYTES(0), .checked = -OSDP_TOO_SHORT,
+      .normalised = -OSDP_TOO_SHORT },
+    { .what = "COM, address 1, 9600 baud", .is_reply = 1, .code = 0x54, .payload = BYTES(1, 0x80, 0x25, 0, 0), .normalised = 5 },
+    { .what = "PDID, serial number 0x12345678", .is_reply = 1, .code = 0x45, .payload = BYTES(0, 6, 0x8E, 1, 2, 0x78, 0x56, 0x34, 0x12, 3, 4, 5),
+      .normalised = 12 },
+    { .what = "PDID, a byte too long", .is_reply = 1, .code = 0x45, .payload = BYTES(0, 6, 0x8E, 1, 2, 0x78, 0x56, 0x34, 0x12, 3, 4, 5, 6),
+      .checked = -OSDP_LENGTH, .normalised = -OSDP_LENGTH },
+    { .what = "LSTATR, tamper", .is_reply = 1, .code = 0x48, .payload = BYTES(1, 0), .normalised = 2 },
     { .what = "no reply", .is_reply = 1, .code = 0x42, .checked = -OSDP_UNKNOWN_REPLY, .normalised = -OSDP_UNKNOWN_REPLY },
 };
 

@@ -108,6 +108,13 @@ fn of_kind(k: &Kind) -> OfKind {
         "BIOMATCHR" => of_kind!(rep::BioMatchR, bench_read_biomatchr),
         "NAK" => of_kind!(rep::Nak, bench_read_nak),
         "XRD" => of_kind!(rep::Xrd, bench_read_xrd),
+        "KEYPAD" => of_kind!(rep::Keypad, bench_read_keypad),
+        "COMSET" => of_kind!(cmd::ComSet, bench_read_comset),
+        "COM" => of_kind!(rep::Com, bench_read_com),
+        "PDID" => of_kind!(rep::PdId, bench_read_pdid),
+        "LSTATR" => of_kind!(rep::LStatR, bench_read_lstatr),
+        "ACURXSIZE" => of_kind!(cmd::AcuRxSize, bench_read_acurxsize),
+        "KEEPACTIVE" => of_kind!(cmd::KeepActive, bench_read_keepactive),
         other => panic!("which type of the original is {other}?"),
     }
 }

@@ -1,4 +1,4 @@
-//! A record of the original as the number that crates/bench_read answers with: see number.rt and list.rt there.
+//! A record of the original as the number that crates/bench_read answers with: see number.rt, list.rt and exact.rt there.
 use osdp::command::{self as cmd, led::LedRecord, output::OutputRecord};
 use osdp::reply as rep;
 
@@ -62,4 +62,11 @@ number! {
     rep::BioMatchR: |b| answer(sum([b.reader, b.result, b.score]));
     rep::Nak: |n| tailed(sum([n.error.as_byte()]), &n.completion_codes);
     rep::Xrd: |x| tailed(sum([x.mode]), &x.payload);
+    rep::Keypad: |k| tailed(sum([k.reader, k.digit_count]), &k.digits);
+    cmd::ComSet: |c| answer(sum([c.address]) + u64::from(c.baud));
+    rep::Com: |c| answer(sum([c.address]) + u64::from(c.baud));
+    rep::PdId: |d| answer(sum(d.vendor_oui) + sum([d.model, d.version]) + u64::from(d.serial) + sum(d.firmware));
+    rep::LStatR: |l| answer(sum([l.tamper, l.power]));
+    cmd::AcuRxSize: |a| answer(u64::from(a.max_size));
+    cmd::KeepActive: |k| answer(u64::from(k.duration_ms));
 }

@@ -15,17 +15,23 @@ OUT = TOOLS.parent.parent / "build/bench-selftest"
 sys.path.insert(0, str(TOOLS.parent))
 import kinds
 
-# what is wrong, how the bench is called, and the call that has to be named; the late ones are right until something is measured
+# what is wrong at LED, how the bench is called, and the call that has to be named; the late ones are right until something is measured
 WRONG = (
     ("refuses all", (), "LED, 14 bytes, check: the answer is -5, not 0"),
     ("accepts all", (), "LED, 0 bytes, check: the answer is 0, not -5"),
     ("a byte", (), "LED, 14 bytes, normalise: byte 7 of the output is"),
-    ("a byte", ("count",), "LED, 14 bytes, normalise: byte 7 of the output is"),
     ("a byte behind", (), "LED, 14 bytes, normalise: byte 0 behind the output is 0x00"),
     ("a number", (), "LED, 14 bytes, read: the answer is"),
     ("the other build", (), "LED, 14 bytes, check-beside: the answer is -5, not 0"),
     ("a late byte", (), "LED, 14 bytes, normalise: after the last round byte 13 of the output is"),
     ("a late answer", (), "LED, 14 bytes, normalise: its "),
+)
+# what is wrong at each kind in its turn, and the call that has to be named
+EACH = (
+    ("refuses all", "{name}, {least} bytes, check: the answer is -5, not 0"),
+    ("accepts all", "{name}, 0 bytes, check: the answer is 0, not -"),
+    ("a byte", "{name}, {least} bytes, normalise: byte {middle} of the output is"),
+    ("a number", "{name}, {least} bytes, read: the answer is"),
 )
 
 # times that meet every target, by call, and changes each of which misses one target
@@ -66,23 +72,38 @@ def renamed(archive, copy, prefixes):
     return copy
 
 
+def place(kind):
+    return f"{kind.side} {kind.code:02X}"
+
+
 def bench(library, readers):
     """over wrong.c, whose calls are neither in the library, nor in the readers, nor in the other build"""
-    taken, kept = ("osdp_check_command", "osdp_normalise_command"), ("osdp_check_reply", "osdp_normalise_reply")
-    right = renamed(library, OUT / "right.a", dict.fromkeys(taken, "right_"))
-    beside = renamed(library, OUT / "beside.a", {taken[0]: "unused_", **dict.fromkeys((taken[1], *kept), "beside_")})
-    readers = renamed(readers, OUT / "readers.a", {"bench_read_led": "right_"})
-    made("cc", "-O2", "-Wall", "-Werror", "-c", TOOLS / "wrong.c", "-o", OUT / "wrong.o")
+    checks, others = ("osdp_check_command", "osdp_check_reply"), ("osdp_normalise_command", "osdp_normalise_reply")
+    right = renamed(library, OUT / "right.a", dict.fromkeys(checks + others, "right_"))
+    beside = renamed(library, OUT / "beside.a", {**dict.fromkeys(checks, "unused_"), **dict.fromkeys(others, "beside_")})
+    readers = renamed(readers, OUT / "readers.a", {f"bench_read_{k.name.lower()}": "right_" for k in kinds.KINDS})
+    listed = " ".join(f'READER({k.name.lower()}, "{place(k)}")' for k in kinds.KINDS)
+    made("cc", "-O2", "-Wall", "-Werror", f"-DREADERS={listed}", "-c", TOOLS / "wrong.c", "-o", OUT / "wrong.o")
     made(TOOLS / "build.sh", OUT / "bench", OUT / "wrong.o", readers, "--cfg", "beside", "-C", f"link-arg={right}", "-C", f"link-arg={beside}")
     return OUT / "bench"
 
 
+def wrong_calls():
+    """what is wrong, at which kind, how the bench is called, and the call that has to be named"""
+    for what, arguments, named in WRONG:
+        yield what, kinds.KINDS[0], arguments, named
+    for kind in kinds.KINDS:
+        for what, named in EACH:
+            yield what, kind, ("count",), named.format(name=kind.name, least=kind.least, middle=kind.least // 2)
+
+
 def try_calls(binary):
     expect(run(binary).returncode == 0, "the bench over the right calls fails")
-    for what, arguments, named in WRONG:
-        said = run(binary, *arguments, WRONG=what)
-        expect(said.returncode == 1 and named in said.stderr, f"{what} {' '.join(arguments)}: not noticed, or not named: {said.stderr[:200]}")
-        expect("late" in what or not said.stdout, f"{what}: noticed after something was measured")
+    for what, kind, arguments, named in CALLS:
+        said = run(binary, *arguments, WRONG=what, AT=place(kind))
+        where = f"{kind.name}: {what} {' '.join(arguments)}"
+        expect(said.returncode == 1 and named in said.stderr, f"{where}: not noticed, or not named: {said.stderr[:200]}")
+        expect("late" in what or not said.stdout, f"{where}: noticed after something was measured")
 
 
 def report(name, changed, change):
@@ -109,9 +130,10 @@ def try_reports():
         expect(page and not documents, f"{where}: the page is not written, or copied to the documents")
 
 
+CALLS = tuple(wrong_calls())
 shutil.rmtree(OUT, ignore_errors=True)
 OUT.mkdir(parents=True)
 try_calls(bench(*sys.argv[1:]))
 try_reports()
-print(f"bench selftest: {len(WRONG)} wrong calls and {len(MISSES)} missed targets, {len(failed)} not noticed")
+print(f"bench selftest: {len(CALLS)} wrong calls and {len(MISSES)} missed targets, {len(failed)} not noticed")
 sys.exit(1 if failed else 0)

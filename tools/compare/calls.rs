@@ -2,7 +2,8 @@
 use crate::guarded::{self, Region};
 use judge::chance::Chance;
 use judge::kinds::{Side, LONGEST};
-use judge::read::normalised;
+use judge::read::{normal_form, Written};
+use judge::refusal::Refusal;
 use std::sync::atomic::{AtomicU64, Ordering};
 
 extern "C" {
@@ -33,6 +34,8 @@ pub struct Count {
     pub cases: u64,
     pub accepted: u64,
     pub changed: u64,
+    /// What the original refuses to write.
+    pub differing: u64,
     pub rows: [u64; 29],
 }
 
@@ -42,6 +45,7 @@ impl Count {
         self.cases += o.cases;
         self.accepted += o.accepted;
         self.changed += o.changed;
+        self.differing += o.differing;
         for (a, b) in self.rows.iter_mut().zip(o.rows) {
             *a += b;
         }
@@ -194,39 +198,33 @@ impl Tester {
     /// All calls for one payload.
     pub fn payload(&mut self, p: &[u8]) {
         let l = self.lend(p);
-        let row = match normalised(self.side, self.code, p) {
-            Ok(form) => {
-                self.accepted(l, &form);
-                NO_ROOM
-            }
-            Err(e) => {
-                self.refused(l, e.row);
-                e.row
-            }
-        };
-        self.counted(row);
+        let want = normal_form(self.side, self.code, p);
+        match &want {
+            Ok(form) => self.accepted(l, &form.bytes),
+            Err(e) => self.refused(l, e.row),
+        }
+        self.counted(&want);
     }
 
-    fn counted(&mut self, row: u8) {
+    fn counted(&mut self, want: &Result<Written, Refusal>) {
+        let row = want.as_ref().map_or_else(|e| e.row, |_| NO_ROOM);
         self.count.payloads += 1;
         self.count.rows[usize::from(row)] += 1;
+        self.count.differing += u64::from(want.as_ref().is_ok_and(|form| form.difference.is_some()));
     }
 
     /// A check, and if it passes normalise into exactly enough room.
     pub fn once(&mut self, p: &[u8]) {
         let l = self.lend(p);
-        let row = match normalised(self.side, self.code, p) {
+        let want = normal_form(self.side, self.code, p);
+        match &want {
             Ok(form) => {
                 self.check(l, 0);
-                self.into(l, form.len(), form.len() as i32, &form);
-                NO_ROOM
+                self.into(l, form.bytes.len(), form.bytes.len() as i32, &form.bytes);
             }
-            Err(e) => {
-                self.check(l, -i32::from(e.row));
-                e.row
-            }
-        };
-        self.counted(row);
+            Err(e) => self.check(l, -i32::from(e.row)),
+        }
+        self.counted(&want);
     }
 
     /// A payload of so many zeroes, longer than any that is taken.
@@ -234,20 +232,21 @@ impl Tester {
         guarded::now(self.side, self.code, len);
         let at = self.wide_payload.at(0);
         let l = Lent { p: unsafe { std::slice::from_raw_parts(at, len) }, at };
-        let row = normalised(self.side, self.code, l.p).err().expect("too long").row;
-        self.check(l, -i32::from(row));
+        let refused = normal_form(self.side, self.code, l.p).err().expect("too long");
+        let want = -i32::from(refused.row);
+        self.check(l, want);
         for room in [0, 64, LONGEST] {
-            self.into(l, room, -i32::from(row), &[]);
+            self.into(l, room, want, &[]);
         }
-        self.counted(row);
+        self.counted(&Err(refused));
     }
 
     /// A buffer that is longer than any payload; of the memory there only the front can be touched.
     pub fn wide_room(&mut self, p: &[u8], room: usize) {
         let l = self.lend(p);
         let buffer = Buffer { out: self.wide_out.at(0), room, before: 0, watched: WIDE_FRONT };
-        match normalised(self.side, self.code, p) {
-            Ok(form) => self.normalise(l, buffer, form.len() as i32, &form),
+        match normal_form(self.side, self.code, p) {
+            Ok(form) => self.normalise(l, buffer, form.bytes.len() as i32, &form.bytes),
             Err(e) => self.normalise(l, buffer, -i32::from(e.row), &[]),
         }
     }

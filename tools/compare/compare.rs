@@ -1,13 +1,14 @@
 //! The four C calls against the original Rust, in one process: compare [--only SIDE CODE] [--stop N] [SEED]
 //! README.md says what is tried. Exits with 1 if an answer or a byte differs, memory is touched that must not be, a kind was never accepted, a row
-//! that a kind can give never occurred or one that it cannot give did, or too few cases were tried. With --only one code byte is tried by
-//! itself, with the same cases, and rows and the number of cases are not looked at; with --stop the run ends at N differences.
+//! that a kind can give never occurred or one that it cannot give did, nothing occurred that the original refuses to write and this repository
+//! writes, or too few cases were tried. With --only one code byte is tried by itself, with the same cases, and rows and the number of cases are not
+//! looked at; with --stop the run ends at N differences.
 mod calls;
 mod guarded;
 mod tried;
 
 use calls::{Count, DIFFERENCES, NO_ROOM};
-use judge::kinds::{kind, Side, KINDS};
+use judge::kinds::{kind, Kind, Side, KINDS};
 use std::sync::atomic::{AtomicUsize, Ordering};
 use std::sync::Mutex;
 
@@ -137,6 +138,13 @@ fn table(counts: &Counts) -> (Count, bool) {
     (total, good)
 }
 
+/// What the original refuses to write and this repository writes, of the codes that are tried, and how often each occurred.
+fn named(only: Option<(Side, u8)>, counts: &Counts) -> Vec<(String, u64)> {
+    let tried = |k: &&Kind| only.is_none_or(|one| one == (k.side, k.code));
+    let differing = |k: &Kind| Some((k.difference()?, counts[k.side as usize][usize::from(k.code)].differing));
+    KINDS.iter().filter(tried).filter_map(differing).collect()
+}
+
 fn main() {
     let o = options();
     let start = std::time::Instant::now();
@@ -148,8 +156,12 @@ fn main() {
     };
     let differences = DIFFERENCES.load(Ordering::Relaxed);
     let (cases, payloads, seconds) = (total.cases, total.payloads, start.elapsed().as_secs());
-    println!("compare: {cases} cases over {payloads} payloads, {differences} differences, seed {:#x}, {seconds} s", o.seed);
-    if differences > 0 || !good {
+    let named = named(o.only, &counts);
+    let never: Vec<_> = named.iter().filter(|(_, n)| *n == 0).collect();
+    never.iter().for_each(|(name, _)| println!("{name}: never occurred"));
+    let also: String = named.iter().map(|(name, n)| format!("; {name}, which the original refuses to write: {n} payloads")).collect();
+    println!("compare: {cases} cases over {payloads} payloads, {differences} differences, seed {:#x}, {seconds} s{also}", o.seed);
+    if differences > 0 || !good || !never.is_empty() {
         std::process::exit(1);
     }
 }

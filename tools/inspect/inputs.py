@@ -1,8 +1,9 @@
 #!/usr/bin/env python3
 """Runs inspect on inputs of every sort: inputs.py PROGRAM
 
-Bad lines and bad files; every code byte of both sides, with the name that its code table has (crates/codes/specs); payloads of the greatest
-lengths; and, also for its speed, the lines of the sample many times over. Of each run all that inspect says, on both outputs, and its exit
+Bad lines and bad files; every code byte of both sides, with the name that its code table has (crates/codes/specs); payloads with the words
+that they have to give; every byte as a digit of a keypad; payloads of the greatest lengths; and, also for its speed, the lines of the sample
+many times over. Of each run all that inspect says, on both outputs, and its exit
 status are compared. inspect says on standard error what is wrong with a file, and ends with status 0 whatever it was given.
 Exits with 1 if something differs.
 """
@@ -162,6 +163,53 @@ def every_code(t):
     return len(codes)
 
 
+def payloads_in_words():
+    """A payload, its length and what inspect has to show of it: other values than the sample's."""
+    return [
+        ("reply 53 FE 05 30 39 7F 38 0D", "KEYPAD, length 7", "reader 254, digit_count 5", "digits: 30 39 7F 38 0D", "as text: 09<clear>8<enter>"),
+        # what is typed is not taken for a name
+        ("reply 53 00 07 3C 63 6C 65 61 72 3E", "KEYPAD, length 9", "reader 0, digit_count 7", "digits: 3C 63 6C 65 61 72 3E", "as text: <3C>clear>"),
+        ("command 6E 7F 78 56 34 12", "COMSET, length 5", "address 127, baud 305419896"),
+        ("reply 54 80 FF FF FF FF", "COM, length 5", "address 128, baud 4294967295"),
+        ("reply 45 1A 2B 3C 4D 5E 6F 70 81 02 93 A4 B5", "PDID, length 12",
+         "oui 1A 2B 3C, model 77, version 94, serial 42037359 (0x0281706F), firmware 147.164.181"),
+        ("reply 45 000000 0000 00000000 000000", "PDID, length 12", "oui 00 00 00, model 0, version 0, serial 0 (0x00000000), firmware 0.0.0"),
+        ("reply 45 FFFFFF FFFF FFFFFFFF FFFFFF", "PDID, length 12",
+         "oui FF FF FF, model 255, version 255, serial 4294967295 (0xFFFFFFFF), firmware 255.255.255"),
+        ("reply 48 01 01", "LSTATR, length 2", "tamper 1 tamper, power 1 power failure"),
+        ("reply 48 00 00", "LSTATR, length 2", "tamper 0 normal, power 0 normal"),
+        ("reply 48 03 02", "LSTATR, length 2", "tamper 3, power 2"),
+        ("command 7B FE FF", "ACURXSIZE, length 2", "max_size 65534 bytes"),
+        ("command A7 01 02", "KEEPACTIVE, length 2", "duration_ms 513"),
+    ]
+
+
+def in_words(t):
+    shown = ""
+    for number, (line, title, *words) in enumerate(payloads_in_words(), 1):
+        side, code, *_ = line.split()
+        shown += f"line {number}: {side} {code} {title}\n" + "".join(f"  {each}\n" for each in words)
+    lines = [line for line, *_ in payloads_in_words()]
+    t.expect("payloads in words", shown + counts(read=len(lines)), text="\n".join(lines).encode())
+
+
+def key(b):
+    """a byte that a keypad sent"""
+    if b in (0x0D, 0x7F):
+        return "<enter>" if b == 0x0D else "<clear>"
+    return chr(b) if 0x20 <= b <= 0x7E and b != ord("<") else f"<{b:02X}>"
+
+
+def every_key(t):
+    """All bytes as digits, in two payloads of the greatest length."""
+    for keys in (range(255), range(255, 0, -1)):
+        wanted = f"digits:{''.join(f' {b:02X}' for b in keys)}\n  as text: {''.join(map(key, keys))}\n"
+        t.expect("the most digits", f"line 1: reply 53 KEYPAD, length 257\n  reader 2, digit_count 255\n  {wanted}{counts(read=1)}",
+                 text=b"reply 53 02FF" + bytes(keys).hex().encode())
+    t.expect("more digits than a count can have", f"line 1: reply 53 KEYPAD, length 258\n"
+             f"  refused, row 6 (0, 0): declared length or count is not the payload's\n{counts(refused=1)}", text=b"reply 53 02FF" + b"30" * 256)
+
+
 def long_payloads(t):
     longest = "line 1: command 80 MFG, length 65546\n  oui 00 00 00\n  payload:" + " 00" * 65543 + "\n"
     longer = "line 2: command 80 MFG, length 65547\n  refused, row 28 (65546, 65547): payload too long (longest, got)\n"
@@ -195,6 +243,8 @@ def main():
     t = Trials(sys.argv[1])
     lines_and_files(t)
     codes = every_code(t)
+    in_words(t)
+    every_key(t)
     long_payloads(t)
     lines, speed = many_lines(t)
     print(f"inputs: {t.runs} runs of inspect, {codes} codes and {lines} short lines among them ({speed:,.0f} lines a second): {t.failures} differ")

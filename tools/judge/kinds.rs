@@ -30,6 +30,8 @@ pub enum Field {
     Code(u8, u8),
     /// A byte up to this one; a higher one is read as 0.
     Folded(u8),
+    /// A byte of any value; the original's writer refuses one above this.
+    Address(u8),
     /// How many bytes the tail has, in a number of so many bytes; not a field of the record.
     Length(usize),
     /// How many bytes the tail has, in a number of so many bytes; a field of the record.
@@ -52,9 +54,10 @@ impl Field {
             "bits16" => Field::Bits,
             "text" => Field::Text,
             "tail" => Field::Tail,
-            _ => match (s.strip_prefix("<="), s.strip_prefix("tail:"), s.split_once('-')) {
+            _ => match (s.strip_prefix("<="), s.strip_prefix('~'), s.strip_prefix("tail:"), s.split_once('-')) {
                 (Some(high), ..) => Field::Folded(byte(high)?),
-                (_, Some(first), _) => Field::TailAfter(byte(first)?),
+                (_, Some(high), ..) => Field::Address(byte(high)?),
+                (.., Some(first), _) => Field::TailAfter(byte(first)?),
                 (.., Some((low, high))) => Field::Code(byte(low)?, byte(high)?),
                 _ => Field::Any(s.parse().ok()?),
             },
@@ -65,7 +68,7 @@ impl Field {
     pub fn width(self) -> usize {
         match self {
             Field::Any(n) | Field::Length(n) | Field::Count(n) => n,
-            Field::Code(..) | Field::Folded(_) => 1,
+            Field::Code(..) | Field::Folded(_) | Field::Address(_) => 1,
             Field::Bits => 2,
             Field::Text | Field::Tail | Field::TailAfter(_) => 0,
         }
@@ -122,7 +125,13 @@ impl Kind {
             fields: layout.split(',').map(Field::parse).collect::<Option<_>>().ok_or("an unknown field in the layout")?,
             timed: numbers(timed)?,
         };
-        if k.lengths() == (k.least, k.most) { Ok(k) } else { Err("least, most and step are not what the layout makes") }
+        if k.lengths() != (k.least, k.most) {
+            return Err("least, most and step are not what the layout makes");
+        }
+        if k.address().is_some() && !k.is_address_and_bytes() {
+            return Err("beside an address there are only bytes of any value");
+        }
+        Ok(k)
     }
 
     /// The least and the greatest length, by the layout.
@@ -154,6 +163,22 @@ impl Kind {
     /// Offsets of the bytes of which some values are refused, each with the highest value that is not; for a list, the offsets in each record.
     pub fn codes(&self) -> impl Iterator<Item = (usize, u8)> + '_ {
         self.places().filter_map(|(at, f)| if let Field::Code(_, highest) = f { Some((at, highest)) } else { None })
+    }
+
+    /// The offset of the address, and the highest that the original writes.
+    pub fn address(&self) -> Option<(usize, u8)> {
+        self.places().find_map(|(at, f)| if let Field::Address(highest) = f { Some((at, highest)) } else { None })
+    }
+
+    /// Whether the payload is one address and bytes of any value, so that the fields of a record are the bytes of its payload.
+    fn is_address_and_bytes(&self) -> bool {
+        let others = self.fields.iter().filter(|f| !matches!(f, Field::Any(_)));
+        self.step == 1 && others.count() == 1
+    }
+
+    /// The name of what this repository writes and the original refuses to write.
+    pub fn difference(&self) -> Option<String> {
+        self.address().map(|(_, highest)| format!("{} address above {highest:02X}", self.name))
     }
 
     /// The first byte that a payload has to have if its tail is not to be cut off.

@@ -35,13 +35,22 @@ impl Kind {
         normalised(self.side, self.code, &p).ok().expect("a good payload")
     }
 
+    /// One that normalising leaves as it is, and that the original writes too.
+    pub fn agreed(&self, n: usize, r: &mut Chance) -> Vec<u8> {
+        let mut p = self.clean(n, r);
+        if let Some((at, highest)) = self.address() {
+            p[at] = p[at].min(highest);
+        }
+        p
+    }
+
     /// Sets the fields that must not have just any value.
     fn set_fields(&self, p: &mut [u8], r: &mut Chance) {
         let tail = p.len() - self.least;
         let mut at = 0;
         for f in &self.fields {
             match *f {
-                Field::Any(_) | Field::Tail => {}
+                Field::Any(_) | Field::Address(_) | Field::Tail => {}
                 Field::Code(low, high) => p[at] = r.from_to(low, high),
                 Field::Folded(highest) => p[at] = r.mostly_up_to(highest),
                 Field::Length(n) | Field::Count(n) => p[at..at + n].copy_from_slice(&tail.to_le_bytes()[..n]),

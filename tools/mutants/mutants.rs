@@ -1,7 +1,7 @@
 //! Tries the comparison on wrong archives: mutants COMPARE
 //! COMPARE is the comparison, linked with the stand-in. It has to find no difference in the stand-in as it is, and to show of each mutant what
 //! wrong.rs says: differences, memory that is touched, a run without its end, or nothing for a reason. Exits with 1 if something else is shown,
-//! if a kind has no mutant but those that leave out its rows, or if there are fewer than LEAST.
+//! if a kind has no mutant but those from the table, or if there are fewer than LEAST.
 use judge::kinds::KINDS;
 use std::io::Read;
 use std::process::{Child, Command, Stdio};
@@ -103,7 +103,7 @@ fn place(m: &Mutant) -> String {
     format!("{:<7} {code:02X} {name}", side.name())
 }
 
-/// Kinds without a mutant of their own but those that leave out a row.
+/// Kinds without a mutant of their own but those from the table.
 fn lacking(mutants: &[Mutant]) -> impl Iterator<Item = &'static str> + '_ {
     KINDS.iter().filter(|k| !mutants.iter().any(|m| m.place == (k.side, k.code) && m.row == 0 && !m.everywhere)).map(|k| k.name)
 }

@@ -17,7 +17,7 @@ pub struct Call<'a> {
     /// The normal form, or the row of the refusal.
     pub answer: Result<Vec<u8>, u8>,
     pub returned: i32,
-    /// The row that the mutant leaves out, or 0.
+    /// The row that the mutant leaves out or gives, if it comes from the table; else 0.
     pub row: u8,
 }
 
@@ -161,7 +161,7 @@ pub struct Mutant {
     pub everywhere: bool,
     pub what: String,
     pub wrong: Wrong,
-    /// The row that it leaves out, or 0.
+    /// The row that it leaves out or gives, if it comes from the table; else 0.
     pub row: u8,
     pub shows: Shows,
     /// It is tried while nothing else is, since it is noticed only if two threads are in a call at the same time.
@@ -207,7 +207,7 @@ pub fn all() -> Vec<Mutant> {
 }
 
 /// Each row of each kind is left out: 15 is a success that writes nothing, 28 is what the kind's own reader gives, and with another row the
-/// payload is taken as it is.
+/// payload is taken as it is. And each kind is one that is not carried.
 fn each_row(name: &'static str, rows: &[usize]) -> Vec<Mutant> {
     let left_out = |&row: &usize| {
         let wrong = match row {
@@ -217,7 +217,8 @@ fn each_row(name: &'static str, rows: &[usize]) -> Vec<Mutant> {
         };
         Mutant { row: row as u8, ..mutant(place(name), format!("row {row} is left out"), wrong) }
     };
-    rows.iter().map(left_out).collect()
+    let not_carried = Mutant { row: 14, ..mutant(place(name), "everything is row 14", Answer(|c| c.refuse(c.row))) };
+    rows.iter().map(left_out).chain([not_carried]).collect()
 }
 
 /// Limits that are off by one.
@@ -259,6 +260,21 @@ fn limits() -> Vec<Mutant> {
         of("BIOMATCHR", "4 bytes are taken, and the last is dropped", Answer(|c| if c.n() == 4 { c.answer = Ok(c.p[..3].to_vec()) })),
         of("FILETRANSFER", "10 bytes are row 6", Answer(|c| if c.n() == 10 { c.refuse(6) })),
         of("FMT", "one character more than the count is taken", Answer(|c| if c.n() > 3 && c.n() - 4 == c.b(2).into() { c.accept() })),
+        of("KEYPAD", "one digit more than the count is taken", Answer(|c| if c.n() > 2 && c.n() - 3 == c.b(1).into() { c.accept() })),
+        of("KEYPAD", "one digit less than the count is taken", Answer(|c| if c.n() > 1 && c.n() - 1 == c.b(1).into() { c.accept() })),
+        of("KEYPAD", "2 bytes are too short", Answer(|c| if c.n() == 2 { c.refuse(4) })),
+        of("KEYPAD", "255 digits are refused", Answer(|c| if c.n() == 257 { c.refuse(6) })),
+        of("COMSET", "normalise refuses an address above 7E", Answer(|c| if c.out.is_some() && c.answer.is_ok() && c.b(0) > 0x7E { c.refuse(3) })),
+        of("COMSET", "address 7F is refused", Answer(|c| if c.answer.is_ok() && c.b(0) == 0x7F { c.refuse(3) })),
+        of("COMSET", "6 bytes are taken", Answer(|c| if c.n() == 6 { c.accept() })),
+        of("COM", "an address above 7E is refused", Answer(|c| if c.answer.is_ok() && c.b(0) > 0x7E { c.refuse(3) })),
+        of("PDID", "13 bytes are taken", Answer(|c| if c.n() == 13 { c.accept() })),
+        of("PDID", "13 bytes are taken, and the last is dropped", Answer(|c| if c.n() == 13 { c.answer = Ok(c.p[..12].to_vec()) })),
+        of("PDID", "12 bytes are refused", Answer(|c| if c.n() == 12 { c.refuse(3) })),
+        of("LSTATR", "a tamper status above 1 is refused", Answer(|c| if c.answer.is_ok() && c.b(0) > 1 { c.refuse(3) })),
+        of("LSTATR", "1 byte is taken", Answer(|c| if c.n() == 1 { c.accept() })),
+        of("ACURXSIZE", "a size of 0 is refused", Answer(|c| if c.answer.is_ok() && c.u16(0) == 0 { c.refuse(3) })),
+        of("KEEPACTIVE", "4 bytes are taken, and the last two are dropped", Answer(|c| if c.n() == 4 { c.answer = Ok(c.p[..2].to_vec()) })),
     ]
 }
 
@@ -277,6 +293,7 @@ fn lengths() -> Vec<Mutant> {
         of("BIOMATCH", "a template of 60,001 bytes is taken with one more", Answer(|c| if c.u16(4) == 60_001 && c.n() == 60_008 { c.accept() })),
         of("BIOREADR", "data of 255 bytes is refused", Answer(|c| if c.n() == 261 { c.refuse(6) })),
         of("FMT", "200 characters are refused", Answer(|c| if c.b(2) == 200 && c.answer.is_ok() { c.refuse(6) })),
+        of("KEYPAD", "of 100 digits the last is not written", Answer(|c| if let (102, Ok(f)) = (c.p.len(), &mut c.answer) { f.pop(); })),
         of("TEXT", "a text of 100 bytes may have one more", Answer(|c| if c.b(5) == 100 && c.n() == 107 { c.accept() })),
         of("NAK", "of 50,000 completion codes one is cut off",
             Answer(|c| if let (50_001, Ok(f)) = (c.p.len(), &mut c.answer) { f.truncate(50_000) })),
@@ -314,6 +331,23 @@ fn values() -> Vec<Mutant> {
         of("MFG", "an OUI that ends in 06 8E is refused", Answer(|c| if c.answer.is_ok() && c.p[1..3] == [0x06, 0x8E] { c.refuse(4) })),
         of("BIOMATCHR", "score FF is written as FE", Answer(|c| c.give(|at, b| if at == 2 && b == 0xFF { 0xFE } else { b }))),
         of("BIOREADR", "quality 200 is written as 0", Answer(|c| c.give(|at, b| if at == 3 && b == 200 { 0 } else { b }))),
+        of("KEYPAD", "digit 7F takes the one before it away",
+            Answer(|c| if let Ok(f) = &mut c.answer { if let Some(at) = f.iter().skip(3).position(|&b| b == 0x7F) { f.drain(2 + at..4 + at); } })),
+        of("KEYPAD", "digit 0D at offset 77 is written as 0A", Answer(|c| c.give(|at, b| if at == 77 && b == 0x0D { 0x0A } else { b }))),
+        of("COMSET", "the baud rate is written high byte first", Answer(|c| if let Ok(f) = &mut c.answer { f[1..].reverse() })),
+        of("COMSET", "an address above 7E is written as 7F", Answer(|c| c.give(|at, b| if at == 0 { b.min(0x7F) } else { b }))),
+        of("COM", "the baud rate's highest byte is not written", Answer(|c| c.give(|at, b| if at == 4 { 0 } else { b }))),
+        of("COM", "a baud rate that ends in 2580 hex is refused", Answer(|c| if c.answer.is_ok() && c.u16(1) == 0x2580 { c.refuse(3) })),
+        of("PDID", "the serial number's halves are exchanged", Answer(|c| if let Ok(f) = &mut c.answer { f[5..9].rotate_left(2) })),
+        of("PDID", "the firmware's build FF is written as FE", Answer(|c| c.give(|at, b| if at == 11 && b == 0xFF { 0xFE } else { b }))),
+        of("LSTATR", "a power status above 1 is written as 1", Answer(|c| c.give(|at, b| if at == 1 { b.min(1) } else { b }))),
+        of("LSTATR", "tamper and power are exchanged", Answer(|c| if let Ok(f) = &mut c.answer { f.swap(0, 1) })),
+        of("ACURXSIZE", "a size above 1,440 is written as 1,440",
+            Answer(|c| if let (1_441.., Ok(f)) = (c.u16(0), &mut c.answer) { f.copy_from_slice(&1_440_u16.to_le_bytes()) })),
+        of("ACURXSIZE", "the size is written high byte first", Answer(|c| if let Ok(f) = &mut c.answer { f.reverse() })),
+        of("KEEPACTIVE", "1,000 ms are refused", Answer(|c| if c.answer.is_ok() && c.u16(0) == 1_000 { c.refuse(3) })),
+        of("KEEPACTIVE", "65,535 ms are written as 65,534",
+            Answer(|c| if let (0xFFFF, Ok(f)) = (c.u16(0), &mut c.answer) { f[0] = 0xFE })),
         of("NAK", "completion code 00 at offset 64 ends them",
             Answer(|c| if let (true, 0, Ok(f)) = (c.n() > 65, c.b(64), &mut c.answer) { f.truncate(64) })),
     ]
@@ -364,6 +398,8 @@ fn behind() -> Vec<Mutant> {
             After(|c| if c.returned > 0 && c.ends()[0] % 4096 != 0 { unsafe { *c.out.expect("a buffer").sub(1) ^= 1 } })),
         shows(Shows::Touched, any("FMT", "the byte after the buffer is changed",
             After(|c| if c.returned > 0 { unsafe { *c.out.expect("a buffer").add(c.room) ^= 1 } }))),
+        of("PDID", "the four bytes behind are cleared if they are there",
+            After(|c| if c.returned > 0 && c.behind().len() >= 4 { c.behind()[..4].fill(0) })),
         of("OUT", "12 bytes behind a list are cleared if its length is no multiple of 16",
             After(|c| if c.returned > 0 && c.returned % 16 != 0 && c.behind().len() >= 12 { c.behind()[..12].fill(0) })),
     ]
@@ -386,6 +422,8 @@ fn on_refusal() -> Vec<Mutant> {
             After(|c| if c.returned == -14 { c.buffer().iter_mut().take(1).for_each(|b| *b = 0) })),
         any("command 00", "with row 1 the last byte is cleared", After(|c| if c.returned == -1 { c.buffer().iter_mut().last().map(|b| *b = 0); })),
         of("RAW", "with row 6 the fixed fields are written", After(|c| if c.returned == -6 { c.put(&c.p[..4]) })),
+        of("KEYPAD", "with row 6 the digits that are there are written", After(|c| if c.returned == -6 { c.put(c.p) })),
+        of("COMSET", "with row 3 the first 5 bytes are written", After(|c| if c.returned == -3 && c.n() > 5 { c.put(&c.p[..5]) })),
     ]
 }
 
@@ -405,6 +443,8 @@ fn rooms() -> Vec<Mutant> {
         any("LED", "a refusal is row 15 if the room has 4 GiB or more", After(|c| if c.returned < 0 && c.room >= 1 << 32 { c.returned = -15 })),
         any("BIOREAD", "a room of 2 GiB and more is negative", Ask(|c| if c.room >= 1 << 31 { c.room = 0 })),
         any("XRD", "a room of 1,000 times the need or more is refused", After(|c| if c.returned > 0 && c.room >= 1_000 * c.need() { c.returned = -15 })),
+        of("ACURXSIZE", "1 byte of room suffices, and is all that is written",
+            After(|c| if let Some(f) = c.too_large().filter(|_| c.room == 1) { c.put(&f); c.returned = 2 })),
         of("NAK", "a NAK that is cut needs room for all of it",
             Answer(|c| if c.out.is_some() && c.answer.is_ok() && c.room < c.n() { c.refuse(15) })),
     ]
@@ -425,6 +465,8 @@ fn order() -> Vec<Mutant> {
         of("LED", "fewer than 14 bytes are row 4", Answer(|c| if c.is_row(5) && c.n() < 14 { c.refuse(4) })),
         of("FILETRANSFER", "a wrong length is row 4 if bytes are missing", Answer(|c| if c.is_row(6) && c.n() < 11 + c.u16(9) { c.refuse(4) })),
         of("BIOREAD", "fewer than 4 bytes are row 4", Answer(|c| if c.is_row(3) && c.n() < 4 { c.refuse(4) })),
+        of("KEYPAD", "fewer than 2 bytes are row 6", Answer(|c| if c.is_row(4) { c.refuse(6) })),
+        of("PDID", "fewer than 12 bytes are row 4", Answer(|c| if c.is_row(3) && c.n() < 12 { c.refuse(4) })),
     ]
 }
 
@@ -471,7 +513,10 @@ fn nulls() -> Vec<Mutant> {
 /// Codes that are not carried, and kinds under other codes.
 fn codes() -> Vec<Mutant> {
     vec![
-        of("reply 45", "PDID of 12 bytes is taken", Answer(|c| if c.n() == 12 { c.accept() })),
+        of("reply 46", "PDCAP of 12 bytes is taken as PDID", Answer(|c| if c.n() == 12 { c.as_code(Side::Reply, 0x45) })),
+        of("command 54", "a command is taken as the reply COM", Answer(|c| c.as_code(Side::Reply, 0x54))),
+        of("reply 6E", "a reply is taken as the command COMSET", Answer(|c| c.as_code(Side::Command, 0x6E))),
+        of("command 48", "a command is taken as the reply LSTATR, if it has 2 bytes", Answer(|c| if c.n() == 2 { c.as_code(Side::Reply, 0x48) })),
         of("command 50", "a command is taken as the reply RAW", Answer(|c| c.as_code(Side::Reply, 0x50))),
         of("reply 80", "a reply is taken as the command MFG", Answer(|c| c.as_code(Side::Command, 0x80))),
         of("reply 69", "a reply is taken as the command LED, if it has 14 bytes", Answer(|c| if c.n() == 14 { c.as_code(Side::Command, 0x69) })),
@@ -482,7 +527,8 @@ fn codes() -> Vec<Mutant> {
         of("command FF", "an unknown code without a payload is not carried", Answer(|c| if c.n() == 0 { c.refuse(14) })),
         of("reply FF", "an unknown reply of 300 bytes is an unknown command", Answer(|c| if c.n() == 300 { c.refuse(1) })),
         of("command 6A", "BUZ is taken as OUT", Answer(|c| c.as_code(Side::Command, 0x68))),
-        of("reply 53", "KEYPAD is taken as FMT", Answer(|c| c.as_code(Side::Reply, 0x51))),
+        of("KEYPAD", "read as FMT", Answer(|c| c.as_code(Side::Reply, 0x51))),
+        of("KEEPACTIVE", "5 bytes are taken as COMSET", Answer(|c| if c.n() == 5 { c.as_code(Side::Command, 0x6E) })),
         of("BIOMATCH", "4 bytes are taken as BIOREAD", Answer(|c| if c.n() == 4 { c.as_code(Side::Command, 0x73) })),
         of("OUT", "28 bytes that are refused are taken as LED", Answer(|c| if c.n() == 28 && c.is_row(7) { c.as_code(Side::Command, 0x69) })),
         of("BIOMATCHR", "read as BIOREAD from 4 bytes on", Answer(|c| if c.n() > 3 { c.as_code(Side::Command, 0x73) })),
@@ -578,6 +624,8 @@ fn answers() -> Vec<Mutant> {
         of("XRD", "everything is taken", Answer(|c| c.accept())),
         of("OUT", "check passes every list", Answer(|c| if c.out.is_none() && c.is_row(7) { c.accept() })),
         of("BIOREADR", "check refuses what normalise takes, for an empty tail", Answer(|c| if c.out.is_none() && c.n() == 6 { c.refuse(6) })),
+        of("COMSET", "check refuses an address above 7E, which normalise takes",
+            Answer(|c| if c.out.is_none() && c.answer.is_ok() && c.b(0) > 0x7E { c.refuse(3) })),
     ]
 }
 

@@ -1,7 +1,7 @@
 //! Cases, and the original's answers to them.
 use crate::{model, records};
 use judge::kinds::{kind, Kind, Side};
-use judge::read::{read, read_of_kind};
+use judge::read::{read, read_of_kind, Written};
 use judge::refusal::{refusal, Refusal};
 use osdp::command::{self as cmd, CommandCode};
 use osdp::error::Error;
@@ -36,10 +36,12 @@ pub const GUARDS: [&str; 4] = ["exact", "least", "positive", "multiple"];
 pub enum Answer {
     Refused(Refusal),
     Passed,
-    /// The byte of a code, or the bytes written or handed out.
+    /// The byte of a code, or the bytes handed out.
     Gave(Vec<u8>),
+    /// A record made by hand that is written.
+    Wrote(Written),
     /// A payload that is accepted: fields, tail, the record written again, and what strict refuses.
-    Read { kind: &'static Kind, parts: records::Parts, wrote: Vec<u8>, strict: Option<Refusal> },
+    Read { kind: &'static Kind, parts: records::Parts, wrote: Written, strict: Option<Refusal> },
 }
 
 fn gave(r: Result<Vec<u8>, Error>) -> Answer {
@@ -77,14 +79,15 @@ fn payload(side: Side, of_kind: bool, code: u8, payload: &[u8]) -> Answer {
         Ok(r) => r,
         Err(e) => return Answer::Refused(e),
     };
-    let wrote = record.encode().unwrap_or_else(|e| panic!("what was read is not written: row {}", e.row));
     let (kind, parts) = kind(side, code).zip(records::parts_of(&record)).expect("a carried kind");
+    let wrote = record.written(kind, &parts.fixed).unwrap_or_else(|e| panic!("what was read is not written: row {}", e.row));
     Answer::Read { kind, parts, wrote, strict: model::strict(kind, payload) }
 }
 
 fn write(side: Side, code: u8, fixed: &[u8], tail: &[u8]) -> Answer {
-    match records::record_of(side, code, fixed, tail.to_vec()).expect("a record of the original").encode() {
-        Ok(bytes) => Answer::Gave(bytes),
+    let (kind, record) = kind(side, code).zip(records::record_of(side, code, fixed, tail.to_vec())).expect("a record of the original");
+    match record.written(kind, fixed) {
+        Ok(wrote) => Answer::Wrote(wrote),
         Err(e) => Answer::Refused(e),
     }
 }

@@ -10,6 +10,7 @@ mod records;
 
 use answer::{answer, Answer, Case, GUARDS, TABLES};
 use judge::kinds::{Side, KINDS};
+use judge::read::Written;
 use judge::refusal::Refusal;
 use std::fmt::Write as _;
 use std::io::{BufRead, Write};
@@ -84,14 +85,19 @@ fn refused(e: &Refusal) -> String {
     format!("refused {} {:02X} {} {}", e.row, e.code, e.first, e.second)
 }
 
+fn differs(w: &Written) -> String {
+    w.difference.as_ref().map_or("".into(), |name| format!(" differs: {name}"))
+}
+
 fn text(a: &Answer) -> String {
     match a {
         Answer::Refused(e) => refused(e),
         Answer::Passed => "passed".into(),
         Answer::Gave(bytes) => format!("gave {}", hex(bytes)),
+        Answer::Wrote(w) => format!("gave {}{}", hex(&w.bytes), differs(w)),
         Answer::Read { parts, wrote, strict, .. } => {
             let strict = strict.map_or("passed".into(), |e| refused(&e));
-            format!("read {} {} wrote {} strict {strict}", hex(&parts.fixed), hex(&parts.tail), hex(wrote))
+            format!("read {} {} wrote {} strict {strict}{}", hex(&parts.fixed), hex(&parts.tail), hex(&wrote.bytes), differs(wrote))
         }
     }
 }
@@ -156,7 +162,7 @@ fn answers(out: &mut impl Write) {
     }
 }
 
-/// Whether every row occurred, and every kind was read and written.
+/// Whether every row and every difference occurred, and every kind was read and written.
 fn packed(out: &mut impl Write) -> bool {
     let (mut tally, mut bytes) = (pack::Tally::default(), Vec::new());
     for (number, line) in lines() {

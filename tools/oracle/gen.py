@@ -14,7 +14,8 @@ from kinds import KINDS, is_tail, span, width
 
 LIMIT = max(k.most for k in KINDS)  # the longest payload that the calls by code take
 TOP = 2**64 - 1
-EACH = 10  # payloads of any size are made once more for each so many of the scale
+EACH = 10  # payloads of any size are made once more for each so many of the scale; every payload of two bytes from this scale on
+SHORT = 1000  # a length below it is short
 LENT = 1024  # the most records of a list that the program that compares lends to a list's writer
 LED, OUT, TEXT, BIOMATCH = (next(k for k in KINDS if k.name == name) for name in ("LED", "OUT", "TEXT", "BIOMATCH"))
 
@@ -64,7 +65,7 @@ def drawn(field, n):
         return u16(n)
     if field == "text":
         return bytes(0x20 + R.below(0x5F) for _ in range(n))
-    return R.bytes(n if field.startswith("tail") else int(field))
+    return R.bytes(n if is_tail(field) else width(field))
 
 
 def good_list(kind, n):
@@ -150,10 +151,11 @@ def damaged(p, least):
 
 def payloads(scale):
     for kind in KINDS:
-        # every payload of one byte; every length up to two past the least
+        # every payload of one byte; every length up to two past the least, and within two of the most if it is short
         for b in range(256):
             yield case(kind, bytes([b]))
-        for n in range(kind.least + 3):
+        near_most = range(kind.most - 2, kind.most + 3) if kind.most < SHORT else ()
+        for n in (*range(kind.least + 3), *near_most):
             for p in (bytes(n), R.bytes(n), b"\xff" * n):
                 yield case(kind, p)
         # good ones, a byte less, a byte more, and damaged ones
@@ -253,7 +255,6 @@ def writes_at_limits():
     for n in (254, 255, 256, 257):
         yield w("command", 0x6B, b"\0\1\0\1\1", f"41*{n}")
         yield w("command", 0x6B, b"\0\1\0\1\1", f"41*{n}+1F")
-        yield w("reply", 0x51, b"\0\0" + bytes([n % 256]), f"41*{n}")
     for n in (65534, 65535, 65536):
         yield w("command", 0x74, b"\0\1\1\x32", f"EE*{n}")
         yield w("reply", 0x57, b"\0\1\1\x32", f"EE*{n}")
@@ -265,15 +266,36 @@ def writes_at_limits():
 
 
 def other_writes(scale):
-    """kinds that no write above names: the fields and the tail of a good payload, and a tail that is a byte longer"""
-    for kind in KINDS:
-        if (kind.side, kind.code) in WRITTEN:
-            continue
+    """kinds that no write above names: the fields and the tail of a good payload, a tail that is a byte longer or shorter, and every edge at every
+    place of the fields"""
+    for kind in [k for k in KINDS if (k.side, k.code) not in WRITTEN]:
         for n in 4 * scale * kind.tried:
             fixed, tail = apart(kind, n)
             yield w(kind.side, kind.code, fixed, tail)
             if is_tail(kind.fields[-1]):
                 yield w(kind.side, kind.code, fixed, tail + R.bytes(1))
+                yield w(kind.side, kind.code, fixed, tail[1:])
+        fixed, tail = apart(kind, kind.tried[:2][-1])
+        for at in range(len(fixed)):
+            for e in EDGES:
+                yield w(kind.side, kind.code, fixed[:at] + bytes([e]) + fixed[at + 1:], tail)
+
+
+def counts():
+    """a count of one byte that is the tail's, one less and one more, modulo 256"""
+    for kind in (k for k in KINDS if "count8" in k.fields):
+        for n in (0, 1, 2, 254, 255, 256, 257):
+            for count in (n - 1, n, n + 1):
+                yield w(kind.side, kind.code, bytes(kind.least - 1) + bytes([count % 256]), f"41*{n}")
+
+
+def every_short_one(scale):
+    """in a large run every payload of two bytes, and every record of kinds that have no other"""
+    for kind in KINDS if scale >= EACH else ():
+        for p in (bytes([a, b]) for a in range(256) for b in range(256)):
+            yield case(kind, p)
+            if kind.most == 2:
+                yield w(kind.side, kind.code, p)
 
 
 def of_any_size(scale):
@@ -364,6 +386,8 @@ def cases(scale):
     yield from writes(scale)
     yield from writes_at_limits()
     yield from other_writes(scale)
+    yield from counts()
+    yield from every_short_one(scale)
     yield from of_any_size(scale)
     yield from bits()
     yield from records(scale)

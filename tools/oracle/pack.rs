@@ -51,12 +51,13 @@ fn joined(kind: &Kind, fixed: &[u8], tail: &[u8]) -> Vec<u8> {
     [fixed, &tail.len().to_le_bytes()[..wide], tail].concat()
 }
 
-/// What occurred: the number of cases, cases by row, and accepted cases by class and code.
+/// What occurred: the number of cases, cases by row, and by class and code those that are accepted and those that the original refuses to write.
 #[derive(Default)]
 pub struct Tally {
     cases: usize,
     rows: BTreeMap<u8, usize>,
     accepted: BTreeMap<(u8, u8), usize>,
+    differing: BTreeMap<(u8, u8), usize>,
 }
 
 fn code_of_table(which: usize, byte: u8) -> u8 {
@@ -83,11 +84,12 @@ fn asked(case: &Case, row: u8) -> (u8, u8, usize, Cow<'_, [u8]>) {
 }
 
 pub fn pack(out: &mut Vec<u8>, tally: &mut Tally, case: &Case, answer: &Answer) {
-    let (refused, output): (Option<Refusal>, &[u8]) = match answer {
-        Answer::Refused(e) => (Some(*e), &[]),
-        Answer::Passed => (None, &[]),
-        Answer::Gave(bytes) => (None, bytes),
-        Answer::Read { wrote, strict, .. } => (*strict, wrote),
+    let (refused, output, differs): (Option<Refusal>, &[u8], bool) = match answer {
+        Answer::Refused(e) => (Some(*e), &[], false),
+        Answer::Passed => (None, &[], false),
+        Answer::Gave(bytes) => (None, bytes, false),
+        Answer::Wrote(w) => (None, &w.bytes, w.difference.is_some()),
+        Answer::Read { wrote: w, strict, .. } => (*strict, &w.bytes, w.difference.is_some()),
     };
     let (class, code, argument, input) = asked(case, refused.map_or(0, |e| e.row));
     let mut e = refused.unwrap_or(Refusal { row: 0, code, first: 0, second: 0 });
@@ -95,18 +97,21 @@ pub fn pack(out: &mut Vec<u8>, tally: &mut Tally, case: &Case, answer: &Answer) 
         e.second = *room;
     }
     if let Answer::Read { kind, parts, wrote, .. } = answer {
-        assert!(*wrote == joined(kind, &parts.fixed, &parts.tail), "the bytes written are not the fields and the tail");
+        assert!(wrote.bytes == joined(kind, &parts.fixed, &parts.tail), "the bytes written are not the fields and the tail");
     }
     put(out, class, code, argument, &input, e, output);
-    tally.count(class, code, e.row);
+    tally.count(class, code, e.row, differs);
 }
 
 impl Tally {
-    fn count(&mut self, class: u8, code: u8, row: u8) {
+    fn count(&mut self, class: u8, code: u8, row: u8, differs: bool) {
         self.cases += 1;
         *self.rows.entry(row).or_default() += 1;
         if row == 0 || row == 17 {
             *self.accepted.entry((class, code)).or_default() += 1;
+        }
+        if differs {
+            *self.differing.entry((class, code)).or_default() += 1;
         }
     }
 
@@ -115,7 +120,19 @@ impl Tally {
         put(out, END, 0, self.cases, &[], Refusal { row: 0, code: 0, first: 0, second: 0 }, &[]);
     }
 
-    /// Says what occurred, and returns whether each row occurred and each kind was read and written.
+    /// Says how often each difference occurred, and answers with what never did.
+    fn differences(&self) -> Vec<String> {
+        let mut lacking = Vec::new();
+        for (k, name) in KINDS.iter().filter_map(|k| Some((k, k.difference()?))) {
+            let [again, by_hand] = [5, 7].map(|class| self.differing.get(&(class + k.side as u8, k.code)).copied().unwrap_or(0));
+            eprintln!("{name}, which the original refuses to write: {again} normalised, {by_hand} written");
+            lacking.extend((again == 0).then(|| format!("{name} normalised")));
+            lacking.extend((by_hand == 0).then(|| format!("{name} written")));
+        }
+        lacking
+    }
+
+    /// Says what occurred, and returns whether each row and each difference occurred and each kind was read and written.
     pub fn report(&self) -> bool {
         let rows: Vec<String> = self.rows.iter().map(|(row, n)| format!("{row}: {n}")).collect();
         eprintln!("{} cases; by row, 0 for none: {}", self.cases, rows.join(", "));
@@ -124,6 +141,7 @@ impl Tally {
             let never = |k: &&Kind| !self.accepted.contains_key(&(class + k.side as u8, k.code));
             lacking.extend(KINDS.iter().filter(never).map(|k| format!("{} {what}", k.name)));
         }
+        lacking.extend(self.differences());
         if !lacking.is_empty() {
             eprintln!("never: {}", lacking.join(", "));
         }

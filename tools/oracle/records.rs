@@ -42,6 +42,9 @@ fn of_command(c: &Command) -> Option<Parts> {
         Command::BioMatch(b) => parts(vec![b.reader, b.bio_type.as_byte(), b.bio_format.as_byte(), b.quality], &b.template),
         Command::FileTransfer(f) => parts([&[f.file_type][..], &f.total_size.to_le_bytes(), &f.offset.to_le_bytes()].concat(), &f.fragment),
         Command::Mfg(m) => parts(m.oui.to_vec(), &m.payload),
+        Command::ComSet(c) => parts([&[c.address][..], &c.baud.to_le_bytes()].concat(), &[]),
+        Command::AcuRxSize(a) => parts(a.max_size.to_le_bytes().to_vec(), &[]),
+        Command::KeepActive(k) => parts(k.duration_ms.to_le_bytes().to_vec(), &[]),
         _ => None,
     }
 }
@@ -54,6 +57,10 @@ fn of_reply(r: &Reply) -> Option<Parts> {
         Reply::BioMatchR(b) => parts(vec![b.reader, b.result, b.score], &[]),
         Reply::Nak(n) => parts(vec![n.error.as_byte()], &n.completion_codes),
         Reply::Xrd(x) => parts(vec![x.mode], &x.payload),
+        Reply::Keypad(k) => parts(vec![k.reader, k.digit_count], &k.digits),
+        Reply::Com(c) => parts([&[c.address][..], &c.baud.to_le_bytes()].concat(), &[]),
+        Reply::PdId(p) => parts([&p.vendor_oui[..], &[p.model, p.version], &p.serial.to_le_bytes(), &p.firmware].concat(), &[]),
+        Reply::LStatR(l) => parts(vec![l.tamper, l.power], &[]),
         _ => None,
     }
 }
@@ -84,6 +91,14 @@ fn output_record(r: &[u8]) -> Option<OutputRecord> {
 
 fn bio_head(f: &[u8]) -> Option<(u8, cmd::BioType, cmd::BioFormat, u8)> {
     (f.len() == 4 && f[1] <= 0x11 && f[2] <= 2).then(|| (f[0], cmd::BioType::from_byte(f[1]), cmd::BioFormat::from_byte(f[2]), f[3]))
+}
+
+fn u16_of(f: &[u8]) -> Option<u16> {
+    Some(u16::from_le_bytes(f.try_into().ok()?))
+}
+
+fn u32_of(f: &[u8]) -> Option<u32> {
+    Some(u32::from_le_bytes(f.try_into().ok()?))
 }
 
 /// None: no record of the original has these fields (a byte that no code has, a wrong number of bytes).
@@ -120,11 +135,14 @@ fn to_command(code: u8, f: &[u8], tail: Vec<u8>) -> Option<Command> {
         }
         0x7C if f.len() == 9 => Command::FileTransfer(cmd::FileTransfer {
             file_type: f[0],
-            total_size: u32::from_le_bytes([f[1], f[2], f[3], f[4]]),
-            offset: u32::from_le_bytes([f[5], f[6], f[7], f[8]]),
+            total_size: u32_of(&f[1..5])?,
+            offset: u32_of(&f[5..])?,
             fragment: tail,
         }),
         0x80 if f.len() == 3 => Command::Mfg(cmd::Mfg { oui: [f[0], f[1], f[2]], payload: tail }),
+        0x6E if f.len() == 5 && tail.is_empty() => Command::ComSet(cmd::ComSet { address: f[0], baud: u32_of(&f[1..])? }),
+        0x7B if tail.is_empty() => Command::AcuRxSize(cmd::AcuRxSize { max_size: u16_of(f)? }),
+        0xA7 if tail.is_empty() => Command::KeepActive(cmd::KeepActive { duration_ms: u16_of(f)? }),
         _ => return None,
     })
 }
@@ -140,6 +158,16 @@ fn to_reply(code: u8, f: &[u8], tail: Vec<u8>) -> Option<Reply> {
         0x58 if f.len() == 3 && tail.is_empty() => Reply::BioMatchR(rep::BioMatchR { reader: f[0], result: f[1], score: f[2] }),
         0x41 if f.len() == 1 => Reply::Nak(rep::Nak { error: rep::NakErrorCode::from_byte(f[0]).ok()?, completion_codes: tail }),
         0xB1 if f.len() == 1 => Reply::Xrd(rep::Xrd { mode: f[0], payload: tail }),
+        0x53 if f.len() == 2 => Reply::Keypad(rep::Keypad { reader: f[0], digit_count: f[1], digits: tail }),
+        0x54 if f.len() == 5 && tail.is_empty() => Reply::Com(rep::Com { address: f[0], baud: u32_of(&f[1..])? }),
+        0x45 if f.len() == 12 && tail.is_empty() => Reply::PdId(rep::PdId {
+            vendor_oui: [f[0], f[1], f[2]],
+            model: f[3],
+            version: f[4],
+            serial: u32_of(&f[5..9])?,
+            firmware: [f[9], f[10], f[11]],
+        }),
+        0x48 if f.len() == 2 && tail.is_empty() => Reply::LStatR(rep::LStatR { tamper: f[0], power: f[1] }),
         _ => return None,
     })
 }

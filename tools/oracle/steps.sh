@@ -19,9 +19,11 @@ ready() {
     echo "$said"
 }
 
-# Whether a file has the oracle's tally of so many cases, in one line, and nothing else.
+# Whether a file has the oracle's tally of so many cases, in one line, a line for each difference of kinds.txt, which occurred, and nothing else.
 tallied() {
-    local lines
-    mapfile -t lines <"$1"
-    [ ${#lines[@]} = 1 ] && [[ ${lines[0]} =~ ^"$2 cases; by row, 0 for none: "[0-9]+:\ [0-9]+(,\ [0-9]+:\ [0-9]+)*$ ]]
+    local tally="^$2 cases; by row, 0 for none: [0-9]+: [0-9]+(, [0-9]+: [0-9]+)*$"
+    local named='^[A-Z]+ address above [0-9A-F]{2}, which the original refuses to write: [1-9][0-9]* normalised, [1-9][0-9]* written$'
+    local names
+    names=$(grep -cE '^[^#].*~' "$root/tools/kinds.txt") || true
+    [ "$(grep -cE "$tally" "$1") $(grep -cE "$named" "$1") $(wc -l <"$1")" = "1 $names $((1 + names))" ]
 }

@@ -15,6 +15,8 @@ use biometric::BioRead;
 use biometric::BioReadRead;
 use file_transfer::FileTransfer;
 use file_transfer::FileTransferRead;
+use keypad::Keypad;
+use keypad::KeypadRead;
 use mfg::Mfg;
 use mfg::MfgRead;
 use nak::Nak;
@@ -29,6 +31,7 @@ use text::TextRead;
 use xrd::Xrd;
 use xrd::XrdRead;
 
+mod exact;
 mod list;
 mod number;
 
@@ -42,6 +45,7 @@ ghost use Rattle.raw_card.specs.Fmt.{fmt};
 ghost use Rattle.bio.specs.Bio.{bioReadR, bioMatchR};
 ghost use Rattle.nak.specs.Nak.{nak};
 ghost use Rattle.xrd.specs.Xrd.{xrd};
+ghost use Rattle.keypad.specs.Keypad.{keypad};
 ghost use Rattle.bench_read.specs.Answer.{Answers};
 
 fn head(h: BioHead) -> u64 {
@@ -181,5 +185,18 @@ pub extern "C" fn bench_read_xrd(p: &[u8]) -> i32
     match Xrd::decode(p) {
         XrdRead::Read(x) => tailed(x.mode as u64, Xrd::payload(p)),
         XrdRead::Refused(e) => refused(e),
+    }
+}
+
+#[no_mangle]
+pub extern "C" fn bench_read_keypad(p: &[u8]) -> i32
+    ensures { λ r. ⌜ Answers (check keypad (now (p .entry))) r ⌝ }
+{
+    match Keypad::decode(p) {
+        KeypadRead::Read(k) => {
+            let n = sum(k.reader, k.digit_count, 0, 0, 0);
+            tailed(n, Keypad::digits(p))
+        }
+        KeypadRead::Refused(e) => refused(e),
     }
 }

@@ -44,10 +44,17 @@ pub(crate) fn show(line: Line, p: &[u8], space: &mut [u8], out: &mut [u8], from:
           ;r58 BIOMATCHR.  reader %d, result %d, score %d\n\
           ;r41 NAK.  error %N\n  completion_codes:%h\n\
           ;rB1 XRD.  mode %d\n  payload:%h\n\
-          ;c60 POLL;c61 ID;c62 CAP;c64 LSTAT;c65 ISTAT;c66 OSTAT;c67 RSTAT;c6A BUZ;c6E COMSET;c75 KEYSET;c76 CHLNG\
-          ;c77 SCRYPT;c7B ACURXSIZE;cA1 XWRITE;cA2 ABORT;cA3 PIVDATA;cA4 GENAUTH;cA5 CRAUTH;cA7 KEEPACTIVE;r40 ACK\
-          ;r45 PDID;r46 PDCAP;r48 LSTATR;r49 ISTATR;r4A OSTATR;r4B RSTATR;r53 KEYPAD;r54 COM;r76 CCRYPT;r78 RMACI\
-          ;r79 BUSY;r7A FTSTAT;r80 PIVDATAR;r81 GENAUTHR;r82 CRAUTHR;r83 MFGSTATR;r84 MFGERRR;r90 MFGREP",
+          ;r53 KEYPAD.  reader %d, digit_count %d\n  digits:%h\n  as text: %k\n\
+          ;c6E COMSET.  address %d, baud %d\n\
+          ;r54 COM.  address %d, baud %d\n\
+          ;r45 PDID.  oui %x %x %x, model %d, version %d, serial %n, firmware %d%p%p\n\
+          ;r48 LSTATR.  tamper %A, power %P\n\
+          ;c7B ACURXSIZE.  max_size %d bytes\n\
+          ;cA7 KEEPACTIVE.  duration_ms %d\n\
+          ;c60 POLL;c61 ID;c62 CAP;c64 LSTAT;c65 ISTAT;c66 OSTAT;c67 RSTAT;c6A BUZ;c75 KEYSET;c76 CHLNG;c77 SCRYPT\
+          ;cA1 XWRITE;cA2 ABORT;cA3 PIVDATA;cA4 GENAUTH;cA5 CRAUTH;r40 ACK;r46 PDCAP;r49 ISTATR;r4A OSTATR\
+          ;r4B RSTATR;r76 CCRYPT;r78 RMACI;r79 BUSY;r7A FTSTAT;r80 PIVDATAR;r81 GENAUTHR;r82 CRAUTHR;r83 MFGSTATR\
+          ;r84 MFGERRR;r90 MFGREP",
     );
     answer(line, words, p, space, out, from)
 }

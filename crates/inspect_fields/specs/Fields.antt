@@ -28,8 +28,18 @@ use Rattle.nak.specs.Nak.{nakErrorByte, nak}
 use Rattle.nak.specs.declared.Nak.{Nak as NakRecord}
 use Rattle.xrd.specs.Xrd.{xrd}
 use Rattle.xrd.specs.declared.Xrd.{Xrd as XrdRecord}
+use Rattle.keypad.specs.Keypad.{keypad}
+use Rattle.keypad.specs.declared.Keypad.{Keypad as KeypadRecord}
+use Rattle.plain.specs.{Com.comSet, Com.comReply, PdId.pdId, LStat.lStatR, Number.acuRxSize, Number.keepActive}
+use Rattle.plain.specs.declared.comset.ComSet.{ComSet as ComSetRecord}
+use Rattle.plain.specs.declared.com.Com.{Com as ComRecord}
+use Rattle.plain.specs.declared.pdid.PdId.{PdId as PdIdRecord}
+use Rattle.plain.specs.declared.lstat.LStatR.{LStatR as LStatRRecord}
+use Rattle.plain.specs.declared.acu_rx_size.AcuRxSize.{AcuRxSize as AcuRxSizeRecord}
+use Rattle.plain.specs.declared.keep_active.KeepActive.{KeepActive as KeepActiveRecord}
 use Rattle.osdp.specs.declared.Kind.{Kind}
 use Rattle.osdp.specs.declared.Kind.the-variants.{Led, Out, Text, BioRead, BioMatch, FileTransfer, Mfg, Raw, Fmt, BioReadR, BioMatchR, Nak, Xrd}
+use Rattle.osdp.specs.declared.Kind.the-variants.{Keypad, ComSet, Com, PdId, LStatR, AcuRxSize, KeepActive}
 
 -- temporary, then permanent
 abbrev pub ledFields : LedRecord → List ℕ
@@ -71,6 +81,29 @@ nakFields n = nakErrorByte (n .error) ∷ []
 abbrev pub xrdFields : XrdRecord → List ℕ
 xrdFields x = x .mode ∷ []
 
+abbrev pub keypadFields : KeypadRecord → List ℕ
+keypadFields k = k .reader ∷ k .«digit_count» ∷ []
+
+abbrev pub comSetFields : ComSetRecord → List ℕ
+comSetFields r = r .address ∷ r .baud ∷ []
+
+abbrev pub comFields : ComRecord → List ℕ
+comFields r = r .address ∷ r .baud ∷ []
+
+abbrev pub pdIdFields : PdIdRecord → List ℕ
+pdIdFields r =
+    r .«oui_0» ∷ r .«oui_1» ∷ r .«oui_2» ∷ r .model ∷ r .version ∷ r .serial
+    ∷ r .«firmware_major» ∷ r .«firmware_minor» ∷ r .«firmware_build» ∷ []
+
+abbrev pub lStatRFields : LStatRRecord → List ℕ
+lStatRFields r = r .tamper ∷ r .power ∷ []
+
+abbrev pub acuRxSizeFields : AcuRxSizeRecord → List ℕ
+acuRxSizeFields r = r .«max_size» ∷ []
+
+abbrev pub keepActiveFields : KeepActiveRecord → List ℕ
+keepActiveFields r = r .«duration_ms» ∷ []
+
 -- the fields where there is a record, else none
 abbrev pub ofRecord : {A : Type 0} → (A → List ℕ) → Outcome A → List ℕ
 ofRecord fields (gives a) = fields a
@@ -100,6 +133,13 @@ fieldsOf BioReadR p offset = ofRecord (λ r. headFields (r .head)) (read bioRead
 fieldsOf BioMatchR p offset = ofRecord bioMatchRFields (read bioMatchR p)
 fieldsOf Nak p offset = ofRecord nakFields (read nak p)
 fieldsOf Xrd p offset = ofRecord xrdFields (read xrd p)
+fieldsOf Keypad p offset = ofRecord keypadFields (read keypad p)
+fieldsOf ComSet p offset = ofRecord comSetFields (read comSet p)
+fieldsOf Com p offset = ofRecord comFields (read comReply p)
+fieldsOf PdId p offset = ofRecord pdIdFields (read pdId p)
+fieldsOf LStatR p offset = ofRecord lStatRFields (read lStatR p)
+fieldsOf AcuRxSize p offset = ofRecord acuRxSizeFields (read acuRxSize p)
+fieldsOf KeepActive p offset = ofRecord keepActiveFields (read keepActive p)
 
 -- filled up with zeros to 15
 abbrev pub padded : List ℕ → List ℕ

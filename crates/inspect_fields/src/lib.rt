@@ -10,6 +10,8 @@ use biometric::BioRead;
 use biometric::BioReadRead;
 use file_transfer::FileTransfer;
 use file_transfer::FileTransferRead;
+use keypad::Keypad;
+use keypad::KeypadRead;
 use led::LedRecord;
 use led::LedStep;
 use mfg::Mfg;
@@ -20,6 +22,18 @@ use osdp::Kind;
 use output::OutputRead;
 use output::OutputRecord;
 use payload_util::Written;
+use plain::acu_rx_size::AcuRxSize;
+use plain::acu_rx_size::AcuRxSizeRead;
+use plain::com::Com;
+use plain::com::ComRead;
+use plain::comset::ComSet;
+use plain::comset::ComSetRead;
+use plain::keep_active::KeepActive;
+use plain::keep_active::KeepActiveRead;
+use plain::lstat::LStatR;
+use plain::lstat::LStatRRead;
+use plain::pdid::PdId;
+use plain::pdid::PdIdRead;
 use raw_card::Fmt;
 use raw_card::FmtRead;
 use raw_card::Raw;
@@ -35,7 +49,7 @@ ghost use lib.ListN.{length};
 ghost use Rattle.osdp.specs.declared.Kind.the-variants as kinds;
 ghost use Rattle.inspect_fields.specs.Fields.{headFields, padded, fieldsOf};
 
-// Up to five values, and zeros: LED has more than the others.
+// Up to five values, and zeros: LED and PDID have more.
 fn five(a: u64, b: u64, c: u64, d: u64, e: u64) -> [u64; 15]
     ensures { λ r. ⌜ r ≡ padded (a ∷ b ∷ c ∷ d ∷ e ∷ []) ⌝ }
 {
@@ -232,6 +246,85 @@ fn xrd(p: &[u8]) -> [u64; 15]
     five(r.mode as u64, 0, 0, 0, 0)
 }
 
+fn keypad(p: &[u8]) -> [u64; 15]
+    ensures { λ r. ⌜ r ≡ padded (fieldsOf kinds.Keypad (now (p .entry)) 0) ⌝ }
+{
+    let KeypadRead::Read(r) = Keypad::decode(p) else {
+        return [0; 15];
+    };
+    five(r.reader as u64, r.digit_count as u64, 0, 0, 0)
+}
+
+fn com_set(p: &[u8]) -> [u64; 15]
+    ensures { λ r. ⌜ r ≡ padded (fieldsOf kinds.ComSet (now (p .entry)) 0) ⌝ }
+{
+    let ComSetRead::Read(r) = ComSet::decode(p) else {
+        return [0; 15];
+    };
+    five(r.address as u64, r.baud as u64, 0, 0, 0)
+}
+
+fn com(p: &[u8]) -> [u64; 15]
+    ensures { λ r. ⌜ r ≡ padded (fieldsOf kinds.Com (now (p .entry)) 0) ⌝ }
+{
+    let ComRead::Read(r) = Com::decode(p) else {
+        return [0; 15];
+    };
+    five(r.address as u64, r.baud as u64, 0, 0, 0)
+}
+
+fn pd_id(p: &[u8]) -> [u64; 15]
+    ensures { λ r. ⌜ r ≡ padded (fieldsOf kinds.PdId (now (p .entry)) 0) ⌝ }
+{
+    let PdIdRead::Read(r) = PdId::decode(p) else {
+        return [0; 15];
+    };
+    [
+        r.oui_0 as u64,
+        r.oui_1 as u64,
+        r.oui_2 as u64,
+        r.model as u64,
+        r.version as u64,
+        r.serial as u64,
+        r.firmware_major as u64,
+        r.firmware_minor as u64,
+        r.firmware_build as u64,
+        0,
+        0,
+        0,
+        0,
+        0,
+        0,
+    ]
+}
+
+fn l_stat_r(p: &[u8]) -> [u64; 15]
+    ensures { λ r. ⌜ r ≡ padded (fieldsOf kinds.LStatR (now (p .entry)) 0) ⌝ }
+{
+    let LStatRRead::Read(r) = LStatR::decode(p) else {
+        return [0; 15];
+    };
+    five(r.tamper as u64, r.power as u64, 0, 0, 0)
+}
+
+fn acu_rx_size(p: &[u8]) -> [u64; 15]
+    ensures { λ r. ⌜ r ≡ padded (fieldsOf kinds.AcuRxSize (now (p .entry)) 0) ⌝ }
+{
+    let AcuRxSizeRead::Read(r) = AcuRxSize::decode(p) else {
+        return [0; 15];
+    };
+    five(r.max_size as u64, 0, 0, 0, 0)
+}
+
+fn keep_active(p: &[u8]) -> [u64; 15]
+    ensures { λ r. ⌜ r ≡ padded (fieldsOf kinds.KeepActive (now (p .entry)) 0) ⌝ }
+{
+    let KeepActiveRead::Read(r) = KeepActive::decode(p) else {
+        return [0; 15];
+    };
+    five(r.duration_ms as u64, 0, 0, 0, 0)
+}
+
 // The fields of a payload's record, or zeros where it has none. Of LED and OUT that is the record at the offset, after its number and the
 // offset; of the others the offset says nothing.
 pub fn of(kind: Kind, p: &[u8], offset: usize) -> [u64; 15]
@@ -251,6 +344,13 @@ pub fn of(kind: Kind, p: &[u8], offset: usize) -> [u64; 15]
         Kind::BioMatchR => bio_match_r(p),
         Kind::Nak => nak(p),
         Kind::Xrd => xrd(p),
+        Kind::Keypad => keypad(p),
+        Kind::ComSet => com_set(p),
+        Kind::Com => com(p),
+        Kind::PdId => pd_id(p),
+        Kind::LStatR => l_stat_r(p),
+        Kind::AcuRxSize => acu_rx_size(p),
+        Kind::KeepActive => keep_active(p),
     }
 }
 
@@ -285,6 +385,9 @@ pub fn tail<'a>(kind: Kind, p: &'a [u8], space: &'a mut [u8]) -> &'a [u8] {
         Kind::BioReadR => BioReadR::data(p),
         Kind::Nak => Nak::completion_codes(p),
         Kind::Xrd => Xrd::payload(p),
+        Kind::Keypad => Keypad::digits(p),
         Kind::Led | Kind::Out | Kind::BioRead | Kind::BioMatchR => p,
+        Kind::ComSet | Kind::Com | Kind::PdId => p,
+        Kind::LStatR | Kind::AcuRxSize | Kind::KeepActive => p,
     }
 }

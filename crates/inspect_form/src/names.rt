@@ -1,12 +1,12 @@
 // The names of numbers.
-use crate::out::Shape;
-use crate::out::bytes;
+use crate::out::word;
 use crate::table::label;
 use crate::table::nth;
 use crate::table::row;
 
-// The name that a letter's row has for a number, counted from 0: for a code, the Rust's.
-pub fn name(letter: u8, n: u64, out: &mut [u8], at: usize) -> usize {
+// The name that a letter's row has for a number, counted from 0, after the words before it: for a code, the Rust's. Nothing where the
+// row has none.
+pub fn name(letter: u8, n: u64, before: &[u8], out: &mut [u8], at: usize) -> usize {
     let names = row(
         label(b'%', letter, b' '),
         b";%C Black.Red.Green.Amber.Blue.Magenta.Cyan.White\
@@ -19,6 +19,8 @@ pub fn name(letter: u8, n: u64, out: &mut [u8], at: usize) -> usize {
           ;%N NoError.BadCrcOrChecksum.CommandLengthError.UnknownCommandCode.UnexpectedSequenceNumber.\
           SecurityBlockTypeNotSupported.EncryptedCommunicationRequired.BioTypeNotSupported.BioFormatNotSupported.\
           UnableToProcessCommandRecord\
+          ;%A normal.tamper\
+          ;%P normal.power failure\
           ;%w command.reply\
           ;%y .strict: \
           ;%m . (cut)\
@@ -32,5 +34,10 @@ pub fn name(letter: u8, n: u64, out: &mut [u8], at: usize) -> usize {
           the code byte has to have two hex digits.not a hex digit.half a byte, its second hex digit is missing.\
           payload of more than 65,547 bytes",
     );
-    bytes(nth(n, names), Shape::Plain, out, at)
+    let found = nth(n, names);
+    if found.len() == 0 {
+        return at;
+    }
+    let start = word(before, &mut *out, at);
+    word(found, out, start)
 }

@@ -23,12 +23,23 @@ pub fn flush(out: &[u8], at: usize) {
     io::write_all(STDOUT_FILENO, first(out, at));
 }
 
+// Words, as they are.
+pub fn word(s: &[u8], out: &mut [u8], from: usize) -> usize {
+    let mut at = from;
+    let mut i: usize = 0;
+    while i < s.len() {
+        at = put(s[i], &mut *out, at);
+        i += 1;
+    }
+    at
+}
+
 // How bytes are shown.
 pub enum Shape {
-    // as they are
-    Plain,
     // as text, with a point for each that is not printable
     Text,
+    // as text that was typed at a keypad
+    Keys,
     // as two hex digits each, after a space
     Hex,
     // as a digit, 0 or 1
@@ -55,10 +66,25 @@ pub fn hex(b: u8, out: &mut [u8], from: usize) -> usize {
     put(digit(b % 16), out, at)
 }
 
+// A byte that a keypad sent: a printable character as it is; in angle brackets, clear and enter by name and every other byte in hex. An
+// opening bracket that was typed is shown in hex too, so that what stands in brackets is never taken for typed characters.
+fn key(b: u8, out: &mut [u8], from: usize) -> usize {
+    match b {
+        0x7F => word(b"<clear>", out, from),
+        0x0D => word(b"<enter>", out, from),
+        b' '..=b';' | b'='..=b'~' => put(b, out, from),
+        _ => {
+            let opened = put(b'<', &mut *out, from);
+            let at = hex(b, &mut *out, opened);
+            put(b'>', out, at)
+        }
+    }
+}
+
 fn byte(b: u8, shape: Shape, out: &mut [u8], from: usize) -> usize {
     match shape {
-        Shape::Plain => put(b, out, from),
         Shape::Text => put(printable(b), out, from),
+        Shape::Keys => key(b, out, from),
         Shape::Bits => put(digit(b % 2), out, from),
         Shape::Hex => {
             let at = put(b' ', &mut *out, from);
@@ -80,5 +106,5 @@ pub fn bytes(s: &[u8], shape: Shape, out: &mut [u8], from: usize) -> usize {
 pub fn decimal(n: u64, out: &mut [u8], at: usize) -> usize {
     let mut digits = [0u8; 20];
     let k = io::decimal(n, &mut digits);
-    bytes(&digits[..k], Shape::Plain, out, at)
+    word(&digits[..k], out, at)
 }

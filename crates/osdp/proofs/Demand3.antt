@@ -1,4 +1,4 @@
--- R1.3, over all thirteen kinds.
+-- R1.3, over all twenty kinds.
 -- Assumes nothing.
 use Rattle.payload_util.proofs.Scheme.{loses-only}
 use Rattle.osdp.specs.Kinds.{form}

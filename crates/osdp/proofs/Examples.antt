@@ -18,7 +18,7 @@ use Rattle.osdp.specs.declared.Kind.the-variants.{Led, Out}
 use Rattle.osdp.specs.Kinds.{form, kindOf}
 use Rattle.osdp.specs.ByCode.{notTooLong, kindFor}
 use Rattle.osdp.specs.Starred.{RefusedAs, AllHold, none, _and_}
-use Rattle.osdp.specs.Examples.{rowExamples, orderExamples, codeExamples, unstarred, distinctLed, fieldExamples}
+use Rattle.osdp.specs.Examples.{rowExamples, orderExamples, codeExamples, unstarred, distinctLed, fieldExamples, refusalExamples}
 use Rattle.osdp.proofs.Starred.{one, both, empty}
 
 unknown : RefusedAs (form Out) (0x03 ∷ 0x07 ∷ 0x0A ∷ 0x00 ∷ []) (row 7 0x68 0 0)
@@ -47,7 +47,8 @@ orders-hold =
 pub codes-hold : AllHold codeExamples
 unfolding codeExamples kindFor kindOf notTooLong readCommand readReply inOrder exactLen atLeast blocksFrom declaredLen atMost tailLen room present colorOf readOutputCode codesKnown readTextCommand printable textShape bioTypeOf bioFormatOf checkTemplate readNakError withinLimits
 codes-hold =
-    refl and refl and refl and refl and refl and refl and refl and refl and refl and refl and refl and refl and refl and none
+    refl and refl and refl and refl and refl and refl and refl and refl and refl and refl and refl and refl and refl
+    and refl and refl and refl and refl and refl and refl and refl and none
 
 pub unstarred-hold : AllHold unstarred
 unfolding unstarred kindFor kindOf notTooLong readCommand readReply inOrder exactLen atLeast blocksFrom declaredLen atMost tailLen room present colorOf readOutputCode codesKnown readTextCommand printable textShape bioTypeOf bioFormatOf checkTemplate readNakError withinLimits
@@ -58,4 +59,10 @@ pub fields-hold : AllHold fieldExamples
 unfolding fieldExamples kindFor kindOf notTooLong readCommand readReply inOrder exactLen atLeast blocksFrom declaredLen atMost tailLen room present colorOf readOutputCode codesKnown readTextCommand printable textShape bioTypeOf bioFormatOf checkTemplate readNakError withinLimits allBits
 fields-hold =
     distinct and both refl refl and refl and both refl refl and both refl refl and both refl refl and both refl refl and both refl refl
-    and both refl refl and refl and refl and refl and refl and refl and refl and refl and none
+    and both refl refl and both refl refl and refl and refl and refl and refl and refl and refl and refl
+    and refl and refl and refl and refl and refl and refl and refl and none
+
+pub refusals-hold : AllHold refusalExamples
+unfolding refusalExamples exactLen atLeast declaredLen tailLen room
+refusals-hold =
+    refl and refl and refl and refl and refl and refl and refl and refl and refl and refl and refl and refl and refl and none

@@ -28,8 +28,8 @@ use Rattle.osdp.specs.declared.Lookup.the-variants.{Carried}
 use Rattle.osdp.specs.Kinds.{form, kindOf}
 use Rattle.osdp.specs.ByCode.{longest, notTooLong, kindFor, check, strict, normalise}
 use Rattle.osdp.specs.Signed.{Short}
-use Rattle.osdp.specs.Promises.{Promised, Promises}
-use Rattle.osdp.proofs.Laws.{law, uncut}
+use Rattle.osdp.specs.Promises.{LosesNothing, Promised, Promises}
+use Rattle.osdp.proofs.Laws.{law, uncut, no-limits}
 use Rattle.osdp.proofs.Lookups.{kind-gives}
 
 -- ---- what strict passes is kept whole
@@ -39,6 +39,9 @@ unfolding withinLimits
 unchanged k p n e =
     kept-whole (loss (form k)) p (uncut k p (λ is. absurd (n is))) (kept-all (limits (loss (form k)) p) p
     (λ at lt. check-pass _ _ (all-pass (limited 17 (code (form k)) (loss (form k)) p) (length p) e at lt)))
+
+pub loses-nothing : LosesNothing
+loses-nothing k l r m s n p = unchanged k p n (no-limits k l r m s p)
 
 -- ---- writing
 

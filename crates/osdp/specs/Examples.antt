@@ -11,6 +11,7 @@ use Rattle.biometric.specs.declared.BioFormat.the-variants.{FingerprintRawPgm, 
 use Rattle.nak.specs.declared.NakErrorCode.the-variants.{UnknownCommandCode}
 use Rattle.osdp.specs.declared.Side.the-variants.{Command, Reply}
 use Rattle.osdp.specs.declared.Kind.the-variants.{Led, Out, Text, BioRead, BioMatch, FileTransfer, Mfg, Raw, Fmt, BioReadR, BioMatchR, Nak, Xrd}
+use Rattle.osdp.specs.declared.Kind.the-variants.{Keypad, ComSet, Com, PdId, LStatR, AcuRxSize, KeepActive}
 use Rattle.osdp.specs.Starred.{Case, reads, isRefused, hasNoRecord, isWritten, isNotWritten, checkSays, strictSays, normaliseGives, hasBits, isTold, isCounted, greenBytes}
 
 -- the example of each row of the refusal table (R7)
@@ -67,6 +68,13 @@ codeExamples =
     ∷ normaliseGives Reply 0x58 (0x00 ∷ 0x01 ∷ 0x63 ∷ []) (0x00 ∷ 0x01 ∷ 0x63 ∷ [])
     ∷ normaliseGives Reply 0x41 (0x03 ∷ 0xAA ∷ []) (0x03 ∷ [])
     ∷ normaliseGives Reply 0xB1 (0x01 ∷ 0x02 ∷ []) (0x01 ∷ 0x02 ∷ [])
+    ∷ normaliseGives Reply 0x53 (0x00 ∷ 0x02 ∷ 0x31 ∷ 0x0D ∷ []) (0x00 ∷ 0x02 ∷ 0x31 ∷ 0x0D ∷ [])
+    ∷ normaliseGives Command 0x6E (0x7F ∷ 0x80 ∷ 0x25 ∷ 0x00 ∷ 0x00 ∷ []) (0x7F ∷ 0x80 ∷ 0x25 ∷ 0x00 ∷ 0x00 ∷ [])
+    ∷ normaliseGives Reply 0x54 (0x7F ∷ 0x80 ∷ 0x25 ∷ 0x00 ∷ 0x00 ∷ []) (0x7F ∷ 0x80 ∷ 0x25 ∷ 0x00 ∷ 0x00 ∷ [])
+    ∷ normaliseGives Reply 0x45 (0x00 ∷ 0x06 ∷ 0x8E ∷ 0x01 ∷ 0x02 ∷ 0x0D ∷ 0xF0 ∷ 0xAD ∷ 0xBA ∷ 0x03 ∷ 0x04 ∷ 0x05 ∷ []) (0x00 ∷ 0x06 ∷ 0x8E ∷ 0x01 ∷ 0x02 ∷ 0x0D ∷ 0xF0 ∷ 0xAD ∷ 0xBA ∷ 0x03 ∷ 0x04 ∷ 0x05 ∷ [])
+    ∷ normaliseGives Reply 0x48 (0x01 ∷ 0x00 ∷ []) (0x01 ∷ 0x00 ∷ [])
+    ∷ normaliseGives Command 0x7B (0xA0 ∷ 0x05 ∷ []) (0xA0 ∷ 0x05 ∷ [])
+    ∷ normaliseGives Command 0xA7 (0xE8 ∷ 0x03 ∷ []) (0xE8 ∷ 0x03 ∷ [])
     ∷ []
 
 -- R8.2: the short ones of the payloads without a star
@@ -88,7 +96,7 @@ distinctLed = record {
   permanent = record { control = 10; «on_time» = 11; «off_time» = 12; «on_color» = Green; «off_color» = Amber };
 }
 
--- R4: every field has another value, so that none can stand for another; R4.12, R4.15 and R5.5
+-- R4, R101: every field has another value, so that none can stand for another; R4.12, R4.15 and R5.5
 unfoldable pub fieldExamples : List Case
 fieldExamples =
     reads Led (0x01 ∷ 0x02 ∷ 0x03 ∷ 0x04 ∷ 0x05 ∷ 0x06 ∷ 0x07 ∷ 0x08 ∷ 0x09 ∷ 0x0A ∷ 0x0B ∷ 0x0C ∷ 0x02 ∷ 0x03 ∷ []) (distinctLed ∷ [])
@@ -100,6 +108,15 @@ fieldExamples =
     ∷ reads Raw (0x07 ∷ 0x08 ∷ 0x09 ∷ 0x00 ∷ 0xAA ∷ 0xBB ∷ []) (record { reader = 7; «format_code» = 8; «bit_count» = 9 }, 0xAA ∷ 0xBB ∷ [])
     ∷ reads Fmt (0x07 ∷ 0x08 ∷ 0x01 ∷ 0x41 ∷ []) (record { reader = 7; direction = 8; «char_count» = 1 }, 0x41 ∷ [])
     ∷ reads Xrd (0x01 ∷ 0x02 ∷ []) (record { mode = 1 }, 0x02 ∷ [])
+    ∷ reads Keypad (0x07 ∷ 0x02 ∷ 0x31 ∷ 0x7F ∷ []) (record { reader = 7; «digit_count» = 2 }, 0x31 ∷ 0x7F ∷ [])
+    ∷ reads ComSet (0xFF ∷ 0x01 ∷ 0x02 ∷ 0x03 ∷ 0x04 ∷ []) (record { address = 0xFF; baud = 0x04030201 })
+    ∷ reads Com (0xFF ∷ 0x01 ∷ 0x02 ∷ 0x03 ∷ 0x04 ∷ []) (record { address = 0xFF; baud = 0x04030201 })
+    ∷ reads PdId (0x01 ∷ 0x02 ∷ 0x03 ∷ 0x04 ∷ 0x05 ∷ 0x06 ∷ 0x07 ∷ 0x08 ∷ 0x09 ∷ 0x0A ∷ 0x0B ∷ 0x0C ∷ [])
+    (record { «oui_0» = 1; «oui_1» = 2; «oui_2» = 3; model = 4; version = 5; serial = 0x09080706; «firmware_major» = 10; «firmware_minor» = 11; «firmware_build» = 12 })
+    ∷ reads LStatR (0x02 ∷ 0xFF ∷ []) (record { tamper = 2; power = 0xFF })
+    ∷ reads AcuRxSize (0x01 ∷ 0x02 ∷ []) (record { «max_size» = 0x0201 })
+    ∷ reads KeepActive (0x01 ∷ 0x02 ∷ []) (record { «duration_ms» = 0x0201 })
+    ∷ isWritten ComSet (record { address = 0x7F; baud = 0x00002580 }) (0x7F ∷ 0x80 ∷ 0x25 ∷ 0x00 ∷ 0x00 ∷ [])
     ∷ isWritten Nak (record { error = UnknownCommandCode }, 0xAA ∷ []) (0x03 ∷ 0xAA ∷ [])
     ∷ hasBits 26 (0x12 ∷ 0x34 ∷ 0x56 ∷ 0x80 ∷ []) (0 ∷ 0 ∷ 0 ∷ 1 ∷ 0 ∷ 0 ∷ 1 ∷ 0 ∷ 0 ∷ 0 ∷ 1 ∷ 1 ∷ 0 ∷ 1 ∷ 0 ∷ 0 ∷ 0 ∷ 1 ∷ 0 ∷ 1 ∷ 0 ∷ 1 ∷ 1 ∷ 0 ∷ 1 ∷ 0 ∷ [])
     ∷ hasBits 99 (0x80 ∷ []) (1 ∷ 0 ∷ 0 ∷ 0 ∷ 0 ∷ 0 ∷ 0 ∷ 0 ∷ [])
@@ -107,4 +124,22 @@ fieldExamples =
     ∷ isTold (Refused (row 28 0x80 65546 65547)) (negsuc 27)
     ∷ isCounted (Wrote 3) (pos 3)
     ∷ isCounted (NotWritten (row 15 0x80 3 2)) (negsuc 14)
+    ∷ []
+
+-- R101.10: each refusal of the seven kinds
+unfoldable pub refusalExamples : List Case
+refusalExamples =
+    isRefused Keypad (0x00 ∷ []) (row 4 0x53 2 1)
+    ∷ isRefused Keypad (0x00 ∷ 0x01 ∷ []) (row 6 0x53 0 0)
+    ∷ isRefused Keypad (0x00 ∷ 0x01 ∷ 0x31 ∷ 0x32 ∷ []) (row 6 0x53 0 0)
+    ∷ isNotWritten Keypad (record { reader = 0; «digit_count» = 1 }, []) (replicate 3 0xA5) (row 13 0x53 0 0)
+    ∷ isNotWritten Keypad (record { reader = 0; «digit_count» = 1 }, 0x31 ∷ 0x32 ∷ []) [] (row 13 0x53 0 0)
+    ∷ isNotWritten Keypad (record { reader = 0; «digit_count» = 1 }, 0x31 ∷ []) (replicate 2 0xA5) (row 15 0x53 3 2)
+    ∷ isRefused ComSet (0x00 ∷ 0x00 ∷ 0x00 ∷ 0x00 ∷ []) (row 3 0x6E 5 4)
+    ∷ isRefused Com (0x00 ∷ 0x00 ∷ 0x00 ∷ 0x00 ∷ 0x00 ∷ 0x00 ∷ []) (row 3 0x54 5 6)
+    ∷ isRefused PdId (replicate 13 0x00) (row 3 0x45 12 13)
+    ∷ isRefused LStatR (0x00 ∷ []) (row 3 0x48 2 1)
+    ∷ isRefused AcuRxSize (0x00 ∷ 0x00 ∷ 0x00 ∷ []) (row 3 0x7B 2 3)
+    ∷ isRefused KeepActive [] (row 3 0xA7 2 0)
+    ∷ isNotWritten KeepActive (record { «duration_ms» = 1000 }) (replicate 1 0xA5) (row 15 0xA7 2 1)
     ∷ []

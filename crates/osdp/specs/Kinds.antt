@@ -1,4 +1,4 @@
--- The thirteen kinds (R2.5): the row of each, and the kind that a code byte names.
+-- The twenty kinds (R2.5, R101): the row of each, and the kind that a code byte names.
 use Rattle.payload_util.specs.Prelude.{List, [], _∷_, ℕ, row, named, Outcome, gives, refuses, guardOf, Form, code}
 use Rattle.payload_util.specs.declared.{Guard.Guard, Guard.the-variants.Pass, Guard.the-variants.Refused}
 use Rattle.codes.specs.{CommandCode.readCommand, ReplyCode.readReply}
@@ -12,8 +12,11 @@ use Rattle.raw_card.specs.{Raw.raw, Fmt.fmt}
 use Rattle.bio.specs.Bio.{bioReadR, bioMatchR}
 use Rattle.nak.specs.Nak.{nak}
 use Rattle.xrd.specs.Xrd.{xrd}
+use Rattle.keypad.specs.Keypad.{keypad}
+use Rattle.plain.specs.{Com.comSet, Com.comReply, PdId.pdId, LStat.lStatR, Number.acuRxSize, Number.keepActive}
 use Rattle.osdp.specs.declared.{Side.Side, Side.the-variants.Command, Side.the-variants.Reply, Kind.Kind, Lookup.Lookup}
 use Rattle.osdp.specs.declared.Kind.the-variants.{Led, Out, Text, BioRead, BioMatch, FileTransfer, Mfg, Raw, Fmt, BioReadR, BioMatchR, Nak, Xrd}
+use Rattle.osdp.specs.declared.Kind.the-variants.{Keypad, ComSet, Com, PdId, LStatR, AcuRxSize, KeepActive}
 use Rattle.osdp.specs.declared.Lookup.the-variants.{Carried, NotCarried, Unknown}
 
 abbrev pub form : Kind → Form
@@ -30,10 +33,17 @@ form BioReadR = bioReadR
 form BioMatchR = bioMatchR
 form Nak = nak
 form Xrd = xrd
+form Keypad = keypad
+form ComSet = comSet
+form Com = comReply
+form PdId = pdId
+form LStatR = lStatR
+form AcuRxSize = acuRxSize
+form KeepActive = keepActive
 
 abbrev pub kinds : Side → List Kind
-kinds Command = Led ∷ Out ∷ Text ∷ BioRead ∷ BioMatch ∷ FileTransfer ∷ Mfg ∷ []
-kinds Reply = Raw ∷ Fmt ∷ BioReadR ∷ BioMatchR ∷ Nak ∷ Xrd ∷ []
+kinds Command = Led ∷ Out ∷ Text ∷ BioRead ∷ BioMatch ∷ FileTransfer ∷ Mfg ∷ ComSet ∷ AcuRxSize ∷ KeepActive ∷ []
+kinds Reply = Raw ∷ Fmt ∷ BioReadR ∷ BioMatchR ∷ Nak ∷ Xrd ∷ Keypad ∷ Com ∷ PdId ∷ LStatR ∷ []
 
 -- the side's code table has the byte
 abbrev pub inTable : Side → ℕ → Guard

@@ -2,15 +2,16 @@
 -- Assumes nothing.
 use mathlib.Core.Path.{_≡_, refl, sym, ap, subst, _∙_}
 use mathlib.Core.List.{List, [], _∷_, _++_}
-use Prim.Native.Nat.{ℕ, zero, _*_, _/_, _<_}
+use Prim.Native.Nat.{ℕ, zero, _+_, _*_, _/_, _≤_, _<_}
 use native.Mathlib.Nat.{mul-div-cancel}
 use native.Mathlib.Omega.{arith}
 use lib.ListN.{length, drop}
 use Rattle.payload_util.specs.Bytes.{Bytes, each, flat}
-use Rattle.payload_util.specs.Guards.{notEmpty}
+use Rattle.payload_util.specs.Guards.{headAndTail, tailLen, notEmpty}
 use Rattle.payload_util.specs.Loss.{without}
 use Rattle.payload_util.specs.Form.{Fixed, Tailed, Listed, fixed, tailed, listed, check}
 use Rattle.payload_util.specs.declared.Guard.the-variants.{Pass}
+use Rattle.payload_util.proofs.Guards.{head-and-tail-pass, pass-head-and-tail, tail-len-pass, pass-tail-len}
 use Rattle.payload_util.proofs.Each.{length-each, length-flat, each-back}
 use Rattle.payload_util.proofs.Scheme.{Law}
 
@@ -53,6 +54,26 @@ module _ {A : Type 0} {k : Tailed A} (n : ℕ) where
     reread = λ r w u i.
         (restores (r .0) (r .1) w i, (rest-is (k .bytes (r .0) (r .1)) u ∙ restores-tail (r .0) (r .1)) i);
   }
+
+-- a record has a field, `count`, that says how many bytes its tail has, and reading loses nothing
+module _ {A : Type 0} {k : Tailed A} (n : ℕ) (count : A → ℕ) where
+  pub counted-law : ((p : List ℕ) → check (tailed k) p ≡ headAndTail n (count (k .fields p)) (k .code) p)
+      → ((r : A) (t : List ℕ) → k .refuse (k .code) r t ≡ tailLen (count r) (k .code) t)
+      → ((p : List ℕ) → k .rest p ≡ drop n p)
+      → ((p : List ℕ) → without (k .loss) p ≡ p)
+      → ((p : List ℕ) → Bytes p → n ≤ length p → k .bytes (k .fields p) (drop n p) ≡ p)
+      → ((r : A) (t : List ℕ) → k .fields (k .bytes r t) ≡ r)
+      → ((r : A) (t : List ℕ) → drop n (k .bytes r t) ≡ t)
+      → ((r : A) (t : List ℕ) → length (k .bytes r t) ≡ n + length t)
+      → Law (tailed k)
+  counted-law checks refuses rest-is loses-nothing keeps restores restores-tail size =
+      tailed-law n
+      (λ p b g. rw (rest-is p, loses-nothing p) (keeps p b (head-and-tail-pass n (k .code) p _ (sym (checks p) ∙ g) .0)))
+      (λ p b g. rw (rest-is p) (refuses (k .fields p) (drop n p)
+      ∙ pass-tail-len _ (k .code) (drop n p) (head-and-tail-pass n (k .code) p _ (sym (checks p) ∙ g) .1)))
+      (λ r t w. restores r t) restores-tail (λ p u. rest-is p) (λ p. ap (check (tailed k)) (loses-nothing p))
+      (λ r t w. checks (k .bytes r t)
+      ∙ pass-head-and-tail n (k .code) _ _ (omega (arith, size r t, ap count (restores r t), tail-len-pass _ (k .code) t (sym (refuses r t) ∙ w))))
 
 not-empty : {A : Type 0} (code : ℕ) (rs : List A) → zero < length rs → notEmpty code rs ≡ Pass
 not-empty code [] h = absurd (omega arith)

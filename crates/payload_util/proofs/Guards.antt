@@ -47,6 +47,10 @@ module _ (n code : ℕ) (p : List ℕ) where
   unfolding exactLen
   exact-pass h = eqb-true _ _ (check-pass _ _ h)
 
+  pub pass-exact : length p ≡ n → exactLen n code p ≡ Pass
+  unfolding exactLen
+  pass-exact h = simp (eq-eqb _ _ h)
+
   pub least-pass : atLeast n code p ≡ Pass → n ≤ length p
   unfolding atLeast
   least-pass h = leb-true _ _ (check-pass _ _ h)

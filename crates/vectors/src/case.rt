@@ -1,9 +1,9 @@
 // Runs one case on the library.
 use vectors_case::Case;
+use vectors_kind::list;
+use vectors_kind::table;
 use vectors_read::guard;
-use vectors_read::list;
 use vectors_read::payload;
-use vectors_read::table;
 use vectors_read::walker;
 use vectors_write::place;
 use vectors_write::writer;

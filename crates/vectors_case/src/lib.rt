@@ -43,6 +43,20 @@ pub const NAK: u8 = 0x41;
 
 pub const XRD: u8 = 0xB1;
 
+pub const KEYPAD: u8 = 0x53;
+
+pub const COMSET: u8 = 0x6E;
+
+pub const COM: u8 = 0x54;
+
+pub const PDID: u8 = 0x45;
+
+pub const LSTATR: u8 = 0x48;
+
+pub const ACURXSIZE: u8 = 0x7B;
+
+pub const KEEPACTIVE: u8 = 0xA7;
+
 pub const LED_BYTES: usize = 14;
 
 pub const OUT_BYTES: usize = 4;

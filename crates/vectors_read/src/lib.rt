@@ -1,31 +1,4 @@
-// Cases of tables and guards, and cases that read a payload, on the library: classes 0 to 6 and 10 to 13 of crates/vectors.
+// Cases of guards, and cases that read a payload, on the library: classes 1 to 6, 11 and 12 of crates/vectors.
 pub mod guard;
-pub mod list;
-mod names;
-mod own;
 pub mod payload;
-mod read_bio;
-mod read_command;
-mod read_reply;
-pub mod table;
 pub mod walker;
-
-use payload_util::Refusal;
-use vectors_case::Case;
-
-// Whether the wanted bytes begin with a record's fixed fields, and from an index on are its tail.
-fn record(c: Case, fixed: &[u8], tail: &[u8], at: usize, want: &[u8]) -> bool {
-    let n = fixed.len();
-    if want.len() < n {
-        return false;
-    }
-    if want.len() < at {
-        return false;
-    }
-    c.row == 0 && check::same(fixed, &want[0..n]) && check::same(tail, &want[at..want.len()])
-}
-
-// Whether e is the wanted refusal and the tail is empty.
-fn refusal(c: Case, e: Refusal, tail: &[u8]) -> bool {
-    c.refuses(e) && tail.len() == 0
-}

@@ -1,32 +1,34 @@
 // Classes 5 and 6: a payload, read, checked and written again, by its code byte and by its kind.
-use crate::list;
-use crate::names;
-use crate::own;
-use crate::read_bio;
-use crate::read_command;
-use crate::read_reply;
+use osdp::Kind;
 use osdp::Lookup;
 use osdp::Side;
 use payload_util::Guard;
 use payload_util::Written;
+use vectors_case::ACURXSIZE;
 use vectors_case::BIOMATCH;
 use vectors_case::BIOMATCHR;
 use vectors_case::BIOREAD;
 use vectors_case::BIOREADR;
+use vectors_case::COM;
+use vectors_case::COMSET;
 use vectors_case::Case;
 use vectors_case::FILETRANSFER;
 use vectors_case::FMT;
+use vectors_case::KEEPACTIVE;
+use vectors_case::KEYPAD;
 use vectors_case::LED;
-use vectors_case::LED_BYTES;
+use vectors_case::LSTATR;
 use vectors_case::MFG;
 use vectors_case::NAK;
 use vectors_case::OUT;
-use vectors_case::OUT_BYTES;
+use vectors_case::PDID;
 use vectors_case::RAW;
 use vectors_case::TEXT;
 use vectors_case::XRD;
 use vectors_case::put;
 use vectors_case::wrote;
+use vectors_kind::own;
+use vectors_kind::reader;
 ghost use mathlib.Core.Path.{_≡_};
 ghost use lib.ListN.{length};
 
@@ -80,10 +82,36 @@ fn by_code(c: Case, p: &[u8], want: &[u8], out: &mut [u8]) -> bool {
 fn finds(c: Case, found: Lookup) -> bool {
     match found {
         Lookup::Carried(kind) => {
-            names::kind(kind) == c.code && c.row != 1 && c.row != 2 && c.row != 14
+            code_of(kind) == c.code && c.row != 1 && c.row != 2 && c.row != 14
         }
         Lookup::NotCarried => c.row == 14,
         Lookup::Unknown => c.row == 1 || c.row == 2,
+    }
+}
+
+// The code byte of a kind, by docs/REQUIREMENTS.md.
+fn code_of(kind: Kind) -> u8 {
+    match kind {
+        Kind::Led => LED,
+        Kind::Out => OUT,
+        Kind::Text => TEXT,
+        Kind::BioRead => BIOREAD,
+        Kind::BioMatch => BIOMATCH,
+        Kind::FileTransfer => FILETRANSFER,
+        Kind::Mfg => MFG,
+        Kind::Raw => RAW,
+        Kind::Fmt => FMT,
+        Kind::BioReadR => BIOREADR,
+        Kind::BioMatchR => BIOMATCHR,
+        Kind::Nak => NAK,
+        Kind::Xrd => XRD,
+        Kind::Keypad => KEYPAD,
+        Kind::ComSet => COMSET,
+        Kind::Com => COM,
+        Kind::PdId => PDID,
+        Kind::LStatR => LSTATR,
+        Kind::AcuRxSize => ACURXSIZE,
+        Kind::KeepActive => KEEPACTIVE,
     }
 }
 
@@ -106,36 +134,9 @@ fn side_of(c: Case) -> Side {
 // Whether the kind's reader gives the wanted fields and the wanted tail. False if no kind has the code byte.
 fn reads(c: Case, p: &[u8], want: &[u8]) -> bool {
     if c.class == COMMANDS {
-        reads_command(c, p, want)
+        reader::command(c, p, want)
     } else {
-        reads_reply(c, p, want)
-    }
-}
-
-fn reads_command(c: Case, p: &[u8], want: &[u8]) -> bool {
-    let code = c.code;
-    match code {
-        LED => list::records(c, LED_BYTES, p, want),
-        OUT => list::records(c, OUT_BYTES, p, want),
-        TEXT => read_command::text(c, p, want),
-        BIOREAD => read_bio::bio_read(c, p, want),
-        BIOMATCH => read_bio::bio_match(c, p, want),
-        FILETRANSFER => read_command::file_transfer(c, p, want),
-        MFG => read_command::mfg(c, p, want),
-        _ => false,
-    }
-}
-
-fn reads_reply(c: Case, p: &[u8], want: &[u8]) -> bool {
-    let code = c.code;
-    match code {
-        RAW => read_reply::raw(c, p, want),
-        FMT => read_reply::fmt(c, p, want),
-        BIOREADR => read_bio::bio_read_r(c, p, want),
-        BIOMATCHR => read_bio::bio_match_r(c, p, want),
-        NAK => read_reply::nak(c, p, want),
-        XRD => read_reply::xrd(c, p, want),
-        _ => false,
+        reader::reply(c, p, want)
     }
 }
 

@@ -1,5 +1,4 @@
 // Classes 11 and 12: one LED walker, stepped to its end and past it.
-use crate::list;
 use led::LedStep;
 use led_walker::LedWalker;
 use led_walker::started;
@@ -7,6 +6,7 @@ use led_walker::step_at;
 use std::num::wrapping_add_usize;
 use vectors_case::Case;
 use vectors_case::LED_BYTES;
+use vectors_kind::list;
 ghost use mathlib.Core.Path.{_≡_};
 ghost use Rattle.payload_util.specs.Prelude.{check, tailWhere};
 ghost use Rattle.led.specs.Led.{leds};

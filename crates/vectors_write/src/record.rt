@@ -7,6 +7,7 @@ use biometric::BioMatch;
 use biometric::BioRead;
 use biometric::BioType;
 use file_transfer::FileTransfer;
+use keypad::Keypad;
 use led::LedColor;
 use led::LedPermanent;
 use led::LedRecord;
@@ -18,6 +19,12 @@ use nak::NakErrorCodeRead;
 use output::OutputControlCode;
 use output::OutputControlCodeRead;
 use output::OutputRecord;
+use plain::acu_rx_size::AcuRxSize;
+use plain::com::Com;
+use plain::comset::ComSet;
+use plain::keep_active::KeepActive;
+use plain::lstat::LStatR;
+use plain::pdid::PdId;
 use raw_card::Fmt;
 use raw_card::Raw;
 use text::Text;
@@ -149,4 +156,58 @@ pub(crate) fn nak(f: &[u8]) -> Nak {
 
 pub(crate) fn xrd(f: &[u8]) -> Xrd {
     Xrd { mode: byte(f, 0) }
+}
+
+pub(crate) fn keypad(f: &[u8]) -> Keypad {
+    Keypad {
+        reader: byte(f, 0),
+        digit_count: byte(f, 1),
+    }
+}
+
+pub(crate) fn com_set(f: &[u8]) -> ComSet {
+    ComSet {
+        address: byte(f, 0),
+        baud: u32_at(f, 1),
+    }
+}
+
+pub(crate) fn com_reply(f: &[u8]) -> Com {
+    Com {
+        address: byte(f, 0),
+        baud: u32_at(f, 1),
+    }
+}
+
+pub(crate) fn pd_id(f: &[u8]) -> PdId {
+    PdId {
+        oui_0: byte(f, 0),
+        oui_1: byte(f, 1),
+        oui_2: byte(f, 2),
+        model: byte(f, 3),
+        version: byte(f, 4),
+        serial: u32_at(f, 5),
+        firmware_major: byte(f, 9),
+        firmware_minor: byte(f, 10),
+        firmware_build: byte(f, 11),
+    }
+}
+
+pub(crate) fn l_stat_r(f: &[u8]) -> LStatR {
+    LStatR {
+        tamper: byte(f, 0),
+        power: byte(f, 1),
+    }
+}
+
+pub(crate) fn acu_rx_size(f: &[u8]) -> AcuRxSize {
+    AcuRxSize {
+        max_size: u16_at(f, 0),
+    }
+}
+
+pub(crate) fn keep_active(f: &[u8]) -> KeepActive {
+    KeepActive {
+        duration_ms: u16_at(f, 0),
+    }
 }

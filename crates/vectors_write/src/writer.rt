@@ -3,17 +3,24 @@ use crate::lend;
 use crate::record;
 use payload_util::Written;
 use raw_card::Raw;
+use vectors_case::ACURXSIZE;
 use vectors_case::BIOMATCH;
 use vectors_case::BIOMATCHR;
 use vectors_case::BIOREAD;
 use vectors_case::BIOREADR;
+use vectors_case::COM;
+use vectors_case::COMSET;
 use vectors_case::Case;
 use vectors_case::FILETRANSFER;
 use vectors_case::FMT;
+use vectors_case::KEEPACTIVE;
+use vectors_case::KEYPAD;
 use vectors_case::LED;
+use vectors_case::LSTATR;
 use vectors_case::MFG;
 use vectors_case::NAK;
 use vectors_case::OUT;
+use vectors_case::PDID;
 use vectors_case::RAW;
 use vectors_case::TEXT;
 use vectors_case::XRD;
@@ -66,6 +73,9 @@ fn command(code: u8, f: &[u8], tail: &[u8], out: &mut [u8]) -> Written {
         BIOMATCH => record::bio_match(f).encode(tail, out),
         FILETRANSFER => record::file_transfer(f).encode(tail, out),
         MFG => record::mfg(f).encode(tail, out),
+        COMSET => record::com_set(f).encode(out),
+        ACURXSIZE => record::acu_rx_size(f).encode(out),
+        KEEPACTIVE => record::keep_active(f).encode(out),
         _ => Written::Refused(none()),
     }
 }
@@ -78,6 +88,10 @@ fn reply(code: u8, f: &[u8], tail: &[u8], out: &mut [u8]) -> Written {
         BIOMATCHR => record::bio_match_r(f).encode(out),
         NAK => record::nak(f).encode(tail, out),
         XRD => record::xrd(f).encode(tail, out),
+        KEYPAD => record::keypad(f).encode(tail, out),
+        COM => record::com_reply(f).encode(out),
+        PDID => record::pd_id(f).encode(out),
+        LSTATR => record::l_stat_r(f).encode(out),
         _ => Written::Refused(none()),
     }
 }

@@ -1,9 +1,7 @@
 -- `bench_read_bioread` meets its contract. Assumes nothing.
-use mathlib.Core.Path.{ap}
 use borrow.Author.Needs.{needs}
-use Rattle.payload_util.specs.Form.{check, fields}
 use Rattle.biometric.specs.Biometric.{bioRead, bioReadOutcome}
-use Rattle.bench_read.proofs.Answered.{read-passes, read-refused}
+use Rattle.bench_read.proofs.Answered.{reader-answers}
 use Rattle.bench_read.proofs.bench_read_bioread.Statement.{statement}
 use Rattle.bench_read.proofs.bench_read_bioread.Tie as tie
 
@@ -11,21 +9,8 @@ pub bench-read-bioread-spec : {M : Type 1} → statement M
 bench-read-bioread-spec =
     tie.close
     (tie.spec
-    (λ c κs. search needs)
-    (λ c. search needs)
-    (λ c κs. search needs)
-    (λ c κs. search needs)
-    (λ c. search needs)
-    (λ c κs. search needs)
-    (λ c.
-    let read = c .before .before .before in
-    let said = read .before .before in
-    let p = said .before .before .args .p .now in
-    read-passes (check bioRead p) (fields bioRead p) (said .decode .ensures)
-    (c .answer .ok) (ap bioReadOutcome (read .b .given .1)) (c .answer .ensures))
-    (λ c.
-    let read = c .before .before in
-    let said = read .before .before in
-    let p = said .before .before .args .p .now in
-    read-refused (check bioRead p) (fields bioRead p) (said .decode .ensures)
-    (c .refused .ok) (ap bioReadOutcome (read .e .given .1)) (c .refused .ensures)))
+    (λ c κs. search needs) (λ c. search needs) (λ c κs. search needs) (λ c κs. search needs) (λ c. search needs) (λ c κs. search needs)
+    (λ c. let read = c .before .before .before in
+    reader-answers bioRead bioReadOutcome _ (read .before .before .decode .ensures) (read .b .given .1) _ (c .answer .ok) (c .answer .ensures))
+    (λ c. let read = c .before .before in
+    reader-answers bioRead bioReadOutcome _ (read .before .before .decode .ensures) (read .e .given .1) _ (c .refused .ok) (c .refused .ensures)))

@@ -21,6 +21,9 @@ command-of-spec =
     (λ c. rw (c .match .keys5))
     (λ c. rw (c .match .keys6))
     (λ c. rw (c .match .keys7))
+    (λ c. rw (c .match .keys8))
+    (λ c. rw (c .match .keys9))
+    (λ c. rw (c .match .keys10))
     (λ c.
     let a = c .before .before .before .before .args in
     other-code Command (a .code) refl (sym (c .before .before .from-byte .ensures) ∙ ap commandOutcome (c .enum-told .given .1)) (c .before .before .before .match .rest))

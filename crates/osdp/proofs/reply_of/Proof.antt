@@ -20,6 +20,10 @@ reply-of-spec =
     (λ c. rw (c .match .keys4))
     (λ c. rw (c .match .keys5))
     (λ c. rw (c .match .keys6))
+    (λ c. rw (c .match .keys7))
+    (λ c. rw (c .match .keys8))
+    (λ c. rw (c .match .keys9))
+    (λ c. rw (c .match .keys10))
     (λ c.
     let a = c .before .before .before .before .args in
     other-code Reply (a .code) refl (sym (c .before .before .from-byte .ensures) ∙ ap replyOutcome (c .enum-told .given .1)) (c .before .before .before .match .rest))

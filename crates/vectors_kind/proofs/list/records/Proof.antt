@@ -2,8 +2,8 @@
 use Prim.Native.Nat.{_≤_, _-_}
 use borrow.Author.Needs.{needs}
 use lib.ListN.{length}
-use Rattle.vectors_read.proofs.list.records.Statement.{statement}
-use Rattle.vectors_read.proofs.list.records.Tie as tie
+use Rattle.vectors_kind.proofs.list.records.Statement.{statement}
+use Rattle.vectors_kind.proofs.list.records.Tie as tie
 
 abbrev Inv-loop : tie.InvT-loop
 Inv-loop c size p want n k₀ at₀ k at = (k ≤ at) × (at ≤ length want)

@@ -66,7 +66,7 @@ fn led(c: Case, read: LedRead, want: &[u8]) -> bool {
 }
 
 // By hand, since the record's writer is made of its to_bytes.
-pub(crate) fn led_bytes(r: LedRecord) -> [u8; 14] {
+pub fn led_bytes(r: LedRecord) -> [u8; 14] {
     let temporary = r.temporary;
     let permanent = r.permanent;
     let temporary_on = temporary.on_color;

@@ -4,32 +4,46 @@ use bio::BioReadR;
 use biometric::BioMatch;
 use biometric::BioRead;
 use file_transfer::FileTransfer;
+use keypad::Keypad;
 use led::LedRecord;
 use mfg::Mfg;
 use nak::Nak;
 use output::OutputRecord;
 use payload_util::Guard;
 use payload_util::Written;
+use plain::acu_rx_size::AcuRxSize;
+use plain::com::Com;
+use plain::comset::ComSet;
+use plain::keep_active::KeepActive;
+use plain::lstat::LStatR;
+use plain::pdid::PdId;
 use raw_card::Fmt;
 use raw_card::Raw;
 use text::Text;
+use vectors_case::ACURXSIZE;
 use vectors_case::BIOMATCH;
 use vectors_case::BIOMATCHR;
 use vectors_case::BIOREAD;
 use vectors_case::BIOREADR;
+use vectors_case::COM;
+use vectors_case::COMSET;
 use vectors_case::FILETRANSFER;
 use vectors_case::FMT;
+use vectors_case::KEEPACTIVE;
+use vectors_case::KEYPAD;
 use vectors_case::LED;
+use vectors_case::LSTATR;
 use vectors_case::MFG;
 use vectors_case::NAK;
 use vectors_case::OUT;
+use vectors_case::PDID;
 use vectors_case::RAW;
 use vectors_case::TEXT;
 use vectors_case::XRD;
 use vectors_case::none;
 use xrd::Xrd;
 
-pub(crate) fn check(code: u8, p: &[u8]) -> Guard {
+pub fn check(code: u8, p: &[u8]) -> Guard {
     match code {
         LED => LedRecord::check(p),
         OUT => OutputRecord::check(p),
@@ -44,11 +58,18 @@ pub(crate) fn check(code: u8, p: &[u8]) -> Guard {
         BIOMATCHR => BioMatchR::check(p),
         NAK => Nak::check(p),
         XRD => Xrd::check(p),
+        KEYPAD => Keypad::check(p),
+        COMSET => ComSet::check(p),
+        COM => Com::check(p),
+        PDID => PdId::check(p),
+        LSTATR => LStatR::check(p),
+        ACURXSIZE => AcuRxSize::check(p),
+        KEEPACTIVE => KeepActive::check(p),
         _ => Guard::Refused(none()),
     }
 }
 
-pub(crate) fn normalise(code: u8, p: &[u8], out: &mut [u8]) -> Written {
+pub fn normalise(code: u8, p: &[u8], out: &mut [u8]) -> Written {
     match code {
         LED => LedRecord::normalise(p, out),
         OUT => OutputRecord::normalise(p, out),
@@ -63,6 +84,13 @@ pub(crate) fn normalise(code: u8, p: &[u8], out: &mut [u8]) -> Written {
         BIOMATCHR => BioMatchR::normalise(p, out),
         NAK => Nak::normalise(p, out),
         XRD => Xrd::normalise(p, out),
+        KEYPAD => Keypad::normalise(p, out),
+        COMSET => ComSet::normalise(p, out),
+        COM => Com::normalise(p, out),
+        PDID => PdId::normalise(p, out),
+        LSTATR => LStatR::normalise(p, out),
+        ACURXSIZE => AcuRxSize::normalise(p, out),
+        KEEPACTIVE => KeepActive::normalise(p, out),
         _ => Written::Refused(none()),
     }
 }

@@ -1,5 +1,7 @@
-// The readers of RAW, FMT, NAK and XRD.
+// The readers of RAW, FMT, KEYPAD, NAK and XRD.
 use crate::names;
+use keypad::Keypad;
+use keypad::KeypadRead;
 use nak::Nak;
 use nak::NakRead;
 use raw_card::Fmt;
@@ -34,6 +36,14 @@ pub(crate) fn fmt(c: Case, p: &[u8], want: &[u8]) -> bool {
             want,
         ),
         FmtRead::Refused(e) => crate::refusal(c, e, chars),
+    }
+}
+
+pub(crate) fn keypad(c: Case, p: &[u8], want: &[u8]) -> bool {
+    let digits = Keypad::digits(p);
+    match Keypad::decode(p) {
+        KeypadRead::Read(r) => crate::record(c, &[r.reader, r.digit_count], digits, 2, want),
+        KeypadRead::Refused(e) => crate::refusal(c, e, digits),
     }
 }
 

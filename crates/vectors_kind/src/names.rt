@@ -1,4 +1,4 @@
-// The byte of each code and of each kind by its name, by docs/REQUIREMENTS.md (R3, R4). The library's as_byte is not used, since it is what is
+// The byte of each code by its name, by docs/REQUIREMENTS.md (R3, R4). The library's as_byte is not used, since it is what is
 // tested, and a from_byte that is wrong in the same way would hide it.
 use biometric::BioFormat;
 use biometric::BioType;
@@ -6,22 +6,8 @@ use codes::CommandCode;
 use codes::ReplyCode;
 use led::LedColor;
 use nak::NakErrorCode;
-use osdp::Kind;
 use output::OutputControlCode;
 use text::TextCommand;
-use vectors_case::BIOMATCH;
-use vectors_case::BIOMATCHR;
-use vectors_case::BIOREAD;
-use vectors_case::BIOREADR;
-use vectors_case::FILETRANSFER;
-use vectors_case::FMT;
-use vectors_case::LED;
-use vectors_case::MFG;
-use vectors_case::NAK;
-use vectors_case::OUT;
-use vectors_case::RAW;
-use vectors_case::TEXT;
-use vectors_case::XRD;
 
 pub(crate) fn command(code: CommandCode) -> u8 {
     match code {
@@ -161,23 +147,5 @@ pub(crate) fn nak(code: NakErrorCode) -> u8 {
         NakErrorCode::BioTypeNotSupported => 7,
         NakErrorCode::BioFormatNotSupported => 8,
         NakErrorCode::UnableToProcessCommandRecord => 9,
-    }
-}
-
-pub(crate) fn kind(kind: Kind) -> u8 {
-    match kind {
-        Kind::Led => LED,
-        Kind::Out => OUT,
-        Kind::Text => TEXT,
-        Kind::BioRead => BIOREAD,
-        Kind::BioMatch => BIOMATCH,
-        Kind::FileTransfer => FILETRANSFER,
-        Kind::Mfg => MFG,
-        Kind::Raw => RAW,
-        Kind::Fmt => FMT,
-        Kind::BioReadR => BIOREADR,
-        Kind::BioMatchR => BIOMATCHR,
-        Kind::Nak => NAK,
-        Kind::Xrd => XRD,
     }
 }

@@ -1,0 +1,19 @@
+-- `keypad` meets its contract. Assumes nothing.
+use borrow.Author.Needs.{needs}
+use Rattle.inspect_fields.proofs.keypad.Statement.{statement}
+use Rattle.inspect_fields.proofs.keypad.Tie as tie
+
+pub keypad-spec : {M : Type 1} → statement M
+keypad-spec =
+    tie.close
+    (tie.spec
+    (λ c κs. search needs)
+    (λ c. search needs)
+    (λ c. search needs)
+    (λ c. rw (← c .before .before .decode .ensures, c .enum-told .given .1))
+    (λ c. search needs)
+    (λ c. search needs)
+    (λ c κs. search needs)
+    (λ c.
+    let read = c .before .before .before .before in
+    rw (← read .before .before .decode .ensures, read .r .given .1) (c .five .ensures)))
