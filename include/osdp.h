@@ -4,7 +4,8 @@
  * A payload is the part of a frame between the code byte and the check; the code byte is not part of it. Twenty kinds are carried:
  * commands LED 0x69, OUT 0x68, TEXT 0x6B, BIOREAD 0x73, BIOMATCH 0x74, FILETRANSFER 0x7C, MFG 0x80, COMSET 0x6E, ACURXSIZE 0x7B,
  * KEEPACTIVE 0xA7; replies RAW 0x50, FMT 0x51, BIOREADR 0x57, BIOMATCHR 0x58, NAK 0x41, XRD 0xB1, KEYPAD 0x53, COM 0x54, PDID 0x45,
- * LSTATR 0x48. A plain byte or number takes every value: also an address above 0x7E, and a byte of a KEYPAD that is no digit.
+ * LSTATR 0x48. A plain byte or number takes every value: also an address above 0x7E, and a byte of a KEYPAD that is no digit. So a program
+ * that sends a COMSET has to see to it that the address is one that a reader can have, 0x00 to 0x7E.
  *
  * For every call:
  * - A pointer may be NULL if its length is 0; then it is not read or written.

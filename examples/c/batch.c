@@ -129,6 +129,7 @@ static const char *name_of(int32_t answer)
  *         store(out, (size_t)n);
  *
  * What the controller is about to send goes through osdp_check_command first; the device would refuse what this call refuses.
+ * The values of plain fields are the controller's to see to: a COMSET passes with any address.
  */
 static int32_t check(int is_reply, uint8_t code, const uint8_t *payload, size_t len)
 {

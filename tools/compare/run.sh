@@ -1,8 +1,8 @@
 #!/usr/bin/env bash
 # Builds and runs the comparison of the four C calls with the original Rust: run.sh [SOURCES [SEED]]
 # SOURCES is as for tools/oracle/build.sh, which builds the original; if it is empty, the default is used. Everything goes to build/.
-# Passes only if the comparison ends with status 0 and its last line says that it found nothing, and how often each difference of kinds.txt occurred: a
-# library could end the process too.
+# Passes only if the comparison ends with status 0 and its last line says that it found nothing, and how often each difference of kinds.txt
+# occurred: a library could end the process too.
 set -euo pipefail
 here=$(cd "$(dirname "$0")" && pwd -P)
 root=$(cd "$here/../.." && pwd -P)

@@ -3,9 +3,8 @@
 
 Bad lines and bad files; every code byte of both sides, with the name that its code table has (crates/codes/specs); payloads with the words
 that they have to give; every byte as a digit of a keypad; payloads of the greatest lengths; and, also for its speed, the lines of the sample
-many times over. Of each run all that inspect says, on both outputs, and its exit
-status are compared. inspect says on standard error what is wrong with a file, and ends with status 0 whatever it was given.
-Exits with 1 if something differs.
+many times over. Of each run all that inspect says, on both outputs, and its exit status are compared. inspect says on standard error what is
+wrong with a file, and ends with status 0 whatever it was given. Exits with 1 if something differs.
 """
 import os
 import re

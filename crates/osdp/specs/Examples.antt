@@ -126,7 +126,7 @@ fieldExamples =
     ∷ isCounted (NotWritten (row 15 0x80 3 2)) (negsuc 14)
     ∷ []
 
--- R101.10: each refusal of the seven kinds
+-- R101.10: refusals of the seven kinds
 unfoldable pub refusalExamples : List Case
 refusalExamples =
     isRefused Keypad (0x00 ∷ []) (row 4 0x53 2 1)

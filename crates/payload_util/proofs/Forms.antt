@@ -55,7 +55,7 @@ module _ {A : Type 0} {k : Tailed A} (n : ℕ) where
         (restores (r .0) (r .1) w i, (rest-is (k .bytes (r .0) (r .1)) u ∙ restores-tail (r .0) (r .1)) i);
   }
 
--- a record has a field, `count`, that says how many bytes its tail has, and reading loses nothing
+-- `count` of a record is how many bytes its tail has, and reading loses nothing
 module _ {A : Type 0} {k : Tailed A} (n : ℕ) (count : A → ℕ) where
   pub counted-law : ((p : List ℕ) → check (tailed k) p ≡ headAndTail n (count (k .fields p)) (k .code) p)
       → ((r : A) (t : List ℕ) → k .refuse (k .code) r t ≡ tailLen (count r) (k .code) t)

@@ -47,10 +47,6 @@ module _ (n code : ℕ) (p : List ℕ) where
   unfolding exactLen
   exact-pass h = eqb-true _ _ (check-pass _ _ h)
 
-  pub pass-exact : length p ≡ n → exactLen n code p ≡ Pass
-  unfolding exactLen
-  pass-exact h = simp (eq-eqb _ _ h)
-
   pub least-pass : atLeast n code p ≡ Pass → n ≤ length p
   unfolding atLeast
   least-pass h = leb-true _ _ (check-pass _ _ h)
@@ -110,6 +106,10 @@ module _ (n code : ℕ) (p : List ℕ) where
       let r : length p % n ≡ 0 = ap (λ (k : ℕ). k % n) e ∙ mul-mod-left (suc m) n in
       simp (lt-ltb _ _ wide, le-leb _ _ l, eq-eqb _ _ r)
   pass-multiple zero wide some e = absurd (omega arith)
+
+pub pass-exact : (n code : ℕ) (p : List ℕ) → length p ≡ n → exactLen n code p ≡ Pass
+unfolding exactLen
+pass-exact n code p h = simp (eq-eqb _ _ h)
 
 pub room-pass : (code needed given : ℕ) → room code needed given ≡ Pass → needed ≤ given
 unfolding room

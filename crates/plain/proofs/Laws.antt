@@ -18,7 +18,7 @@ use Rattle.plain.specs.PdId.{pdId}
 use Rattle.plain.specs.LStat.{lStatR}
 use Rattle.plain.specs.Number.{oneNumber, acuRxSize, keepActive}
 
-module _ {A : Type 0} {code : ℕ} (len : ℕ) {fields : List ℕ → A} {bytes : A → List ℕ} where
+module _ {A : Type 0} {code len : ℕ} {fields : List ℕ → A} {bytes : A → List ℕ} where
   exact-law : ((p : List ℕ) → Bytes p → length p ≡ len → bytes (fields p) ≡ p) → ((r : A) → fields (bytes r) ≡ r)
       → ((r : A) → length (bytes r) ≡ len) → Law (exact code len fields bytes)
   exact-law keeps restores size =
@@ -30,7 +30,7 @@ module _ {A : Type 0} {code : ℕ} (make : ℕ → ℕ → A) (address baud : A 
   com-law : ((a b : ℕ) → address (make a b) ≡ a) → ((a b : ℕ) → baud (make a b) ≡ b) → ((r : A) → make (address r) (baud r) ≡ r)
       → Law (addressAndBaud code make address baud)
   com-law address-is baud-is whole =
-      exact-law 5
+      exact-law
       (λ p b e. by-head 5 p (λ q. q) (omega arith) (simp (address-is, baud-is, low-byte, high-byte, low-word, high-word, ended 5 p e)))
       (λ r. simp (mod-add-div, whole)) (λ r. refl)
 
@@ -42,18 +42,18 @@ com-reply-law = com-law (λ a b. record { address = a; baud = b }) (λ r. r .add
 
 pub pd-id-law : Law pdId
 pd-id-law =
-    exact-law 12
+    exact-law
     (λ p b e. by-head 12 p (λ q. q) (omega arith) (simp (low-byte, high-byte, low-word, high-word, ended 12 p e)))
     (λ r. simp mod-add-div) (λ r. refl)
 
 pub l-stat-r-law : Law lStatR
-l-stat-r-law = exact-law 2 (λ p b e. by-head 2 p (λ q. q) (omega arith) (simp (ended 2 p e))) (λ r. refl) (λ r. refl)
+l-stat-r-law = exact-law (λ p b e. by-head 2 p (λ q. q) (omega arith) (simp (ended 2 p e))) (λ r. refl) (λ r. refl)
 
 -- ACURXSIZE and KEEPACTIVE: a record is made of its number
 module _ {A : Type 0} {code : ℕ} (make : ℕ → A) (number : A → ℕ) where
   number-law : ((n : ℕ) → number (make n) ≡ n) → ((r : A) → make (number r) ≡ r) → Law (oneNumber code make number)
   number-law number-is whole =
-      exact-law 2
+      exact-law
       (λ p b e. by-head 2 p (λ q. q) (omega arith) (simp (number-is, low-byte, high-byte, ended 2 p e)))
       (λ r. simp (mod-add-div, whole)) (λ r. refl)
 

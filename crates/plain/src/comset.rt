@@ -10,7 +10,7 @@ use payload_util::u32_at;
 ghost use Rattle.payload_util.specs.Prelude.{_≡_, check, read, write, normalise};
 ghost use Rattle.plain.specs.Com.{comSetOutcome, comSet};
 
-// Any address is taken, also above 0x7E.
+// Any address is taken, also above 0x7E, which is the highest that a reader can have.
 pub struct ComSet {
     pub address: u8,
     pub baud: u32,
