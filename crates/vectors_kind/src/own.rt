@@ -42,6 +42,8 @@ use vectors_case::TEXT;
 use vectors_case::XRD;
 use vectors_case::none;
 use xrd::Xrd;
+ghost use mathlib.Core.Path.{_≡_};
+ghost use lib.ListN.{length};
 
 pub fn check(code: u8, p: &[u8]) -> Guard {
     match code {
@@ -69,7 +71,9 @@ pub fn check(code: u8, p: &[u8]) -> Guard {
     }
 }
 
-pub fn normalise(code: u8, p: &[u8], out: &mut [u8]) -> Written {
+pub fn normalise(code: u8, p: &[u8], out: &mut [u8]) -> Written
+    ensures { λ _. ⌜ length (now (out .exit)) ≡ length (now (out .entry)) ⌝ }
+{
     match code {
         LED => LedRecord::normalise(p, out),
         OUT => OutputRecord::normalise(p, out),
