@@ -6,7 +6,7 @@ use crate::table::row;
 
 // The name that a letter's row has for a number, counted from 0, after the words before it: for a code, the Rust's. Nothing where the
 // row has none.
-pub fn name(letter: u8, n: u64, before: &[u8], out: &mut [u8], at: usize) -> usize {
+pub(crate) fn name(letter: u8, n: u64, before: &[u8], out: &mut [u8], at: usize) -> usize {
     let names = row(
         label(b'%', letter, b' '),
         b";%C Black.Red.Green.Amber.Blue.Magenta.Cyan.White\

@@ -2,7 +2,7 @@
 // how many are in use afterwards.
 use libc::STDOUT_FILENO;
 
-pub fn put(b: u8, out: &mut [u8], at: usize) -> usize {
+pub(crate) fn put(b: u8, out: &mut [u8], at: usize) -> usize {
     if at < out.len() {
         out[at] = b;
         return at + 1;
@@ -24,7 +24,7 @@ pub fn flush(out: &[u8], at: usize) {
 }
 
 // Words, as they are.
-pub fn word(s: &[u8], out: &mut [u8], from: usize) -> usize {
+pub(crate) fn word(s: &[u8], out: &mut [u8], from: usize) -> usize {
     let mut at = from;
     let mut i: usize = 0;
     while i < s.len() {
@@ -35,7 +35,7 @@ pub fn word(s: &[u8], out: &mut [u8], from: usize) -> usize {
 }
 
 // How bytes are shown.
-pub enum Shape {
+pub(crate) enum Shape {
     // as text, with a point for each that is not printable
     Text,
     // as text that was typed at a keypad
@@ -61,7 +61,7 @@ pub fn digit(n: u8) -> u8 {
     if n < 10 { b'0' + n } else { b'7' + n % 16 }
 }
 
-pub fn hex(b: u8, out: &mut [u8], from: usize) -> usize {
+pub(crate) fn hex(b: u8, out: &mut [u8], from: usize) -> usize {
     let at = put(digit(b / 16), &mut *out, from);
     put(digit(b % 16), out, at)
 }
@@ -93,7 +93,7 @@ fn byte(b: u8, shape: Shape, out: &mut [u8], from: usize) -> usize {
     }
 }
 
-pub fn bytes(s: &[u8], shape: Shape, out: &mut [u8], from: usize) -> usize {
+pub(crate) fn bytes(s: &[u8], shape: Shape, out: &mut [u8], from: usize) -> usize {
     let mut at = from;
     let mut i: usize = 0;
     while i < s.len() {
@@ -103,7 +103,7 @@ pub fn bytes(s: &[u8], shape: Shape, out: &mut [u8], from: usize) -> usize {
     at
 }
 
-pub fn decimal(n: u64, out: &mut [u8], at: usize) -> usize {
+pub(crate) fn decimal(n: u64, out: &mut [u8], at: usize) -> usize {
     let mut digits = [0u8; 20];
     let k = io::decimal(n, &mut digits);
     word(&digits[..k], out, at)

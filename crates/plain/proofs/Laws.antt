@@ -19,9 +19,9 @@ use Rattle.plain.specs.LStat.{lStatR}
 use Rattle.plain.specs.Number.{oneNumber, acuRxSize, keepActive}
 
 module _ {A : Type 0} {code len : ℕ} {fields : List ℕ → A} {bytes : A → List ℕ} where
-  exact-law : ((p : List ℕ) → Bytes p → length p ≡ len → bytes (fields p) ≡ p) → ((r : A) → fields (bytes r) ≡ r)
-      → ((r : A) → length (bytes r) ≡ len) → Law (exact code len fields bytes)
-  exact-law keeps restores size =
+  exact-law : ((r : A) → length (bytes r) ≡ len) → ((r : A) → fields (bytes r) ≡ r)
+      → ((p : List ℕ) → Bytes p → length p ≡ len → bytes (fields p) ≡ p) → Law (exact code len fields bytes)
+  exact-law size restores keeps =
       fixed-law (λ p b g. keeps p b (exact-pass len code p g)) (λ p b g. refl) (λ r w. restores r) (λ p. refl)
       (λ r w. pass-exact len code (bytes r) (size r))
 
@@ -30,9 +30,8 @@ module _ {A : Type 0} {code : ℕ} (make : ℕ → ℕ → A) (address baud : A 
   com-law : ((a b : ℕ) → address (make a b) ≡ a) → ((a b : ℕ) → baud (make a b) ≡ b) → ((r : A) → make (address r) (baud r) ≡ r)
       → Law (addressAndBaud code make address baud)
   com-law address-is baud-is whole =
-      exact-law
+      exact-law (λ r. refl) (λ r. simp (mod-add-div, whole))
       (λ p b e. by-head 5 p (λ q. q) (omega arith) (simp (address-is, baud-is, low-byte, high-byte, low-word, high-word, ended 5 p e)))
-      (λ r. simp (mod-add-div, whole)) (λ r. refl)
 
 pub com-set-law : Law comSet
 com-set-law = com-law (λ a b. record { address = a; baud = b }) (λ r. r .address) (λ r. r .baud) (λ a b. refl) (λ a b. refl) (λ r. refl)
@@ -42,20 +41,18 @@ com-reply-law = com-law (λ a b. record { address = a; baud = b }) (λ r. r .add
 
 pub pd-id-law : Law pdId
 pd-id-law =
-    exact-law
+    exact-law (λ r. refl) (λ r. simp mod-add-div)
     (λ p b e. by-head 12 p (λ q. q) (omega arith) (simp (low-byte, high-byte, low-word, high-word, ended 12 p e)))
-    (λ r. simp mod-add-div) (λ r. refl)
 
 pub l-stat-r-law : Law lStatR
-l-stat-r-law = exact-law (λ p b e. by-head 2 p (λ q. q) (omega arith) (simp (ended 2 p e))) (λ r. refl) (λ r. refl)
+l-stat-r-law = exact-law (λ r. refl) (λ r. refl) (λ p b e. by-head 2 p (λ q. q) (omega arith) (simp (ended 2 p e)))
 
 -- ACURXSIZE and KEEPACTIVE: a record is made of its number
 module _ {A : Type 0} {code : ℕ} (make : ℕ → A) (number : A → ℕ) where
   number-law : ((n : ℕ) → number (make n) ≡ n) → ((r : A) → make (number r) ≡ r) → Law (oneNumber code make number)
   number-law number-is whole =
-      exact-law
+      exact-law (λ r. refl) (λ r. simp (mod-add-div, whole))
       (λ p b e. by-head 2 p (λ q. q) (omega arith) (simp (number-is, low-byte, high-byte, ended 2 p e)))
-      (λ r. simp (mod-add-div, whole)) (λ r. refl)
 
 pub acu-rx-size-law : Law acuRxSize
 acu-rx-size-law = number-law (λ n. record { «max_size» = n }) (λ r. r .«max_size») (λ n. refl) (λ r. refl)
