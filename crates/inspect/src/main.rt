@@ -1,12 +1,10 @@
 // Shows payloads in words: reads lines such as `command 69 00 00 ..` from standard input or from a file.
-use inspect_answer::input::Input;
+use inspect_answer::input::all;
 use inspect_form::out::flush;
 use inspect_line::LONGEST;
 use libc::STDERR_FILENO;
 use libc::STDIN_FILENO;
 use libc::STDOUT_FILENO;
-ghost use Prim.Native.Nat.{_≤_, _-_};
-ghost use lib.ListN.{length};
 
 fn help() {
     io::write_all(
@@ -22,38 +20,6 @@ fn help() {
           where they differ; or the refusal: its row, its two numbers and what it means. A line that is no payload is\n\
           named with the column where it goes wrong, and the rest goes on.\n",
     );
-}
-
-// The payloads of an open file, up to its end or to a read that fails.
-fn all(fd: i32, input: &mut [u8], payload: &mut [u8], space: &mut [u8], out: &mut [u8]) -> usize {
-    let mut s = Input::new();
-    let mut reads = u64::MAX;
-    while reads > 0 {
-        let n = read(fd, &mut *input);
-        s = s.bytes(&input[0..n], &mut *payload, &mut *space, &mut *out);
-        reads = left(reads, n);
-    }
-    s.close(payload, space, out)
-}
-
-// The reads that are left after one that brought so many bytes.
-fn left(reads: u64, n: usize) -> u64
-    ensures { λ r. ⌜ r ≤ reads - 1 ⌝ }
-{
-    if n == 0 {
-        return 0;
-    }
-    if reads == 0 { 0 } else { reads - 1 }
-}
-
-fn read(fd: i32, input: &mut [u8]) -> usize
-    ensures { λ r. ⌜ r ≤ length (now (input .exit)) ⌝ }
-{
-    let got = libc::read(fd, &mut *input);
-    if got < 0 {
-        os::fail(b"inspect: cannot read");
-    }
-    io::count(got, input)
 }
 
 fn inspect(fd: i32) {

@@ -9,9 +9,11 @@ use inspect_line::Place;
 use inspect_line::WORD_SHOWN;
 use std::num::wrapping_add_u64;
 use std::num::wrapping_add_usize;
+ghost use Prim.Native.Nat.{_≤_, _-_};
+ghost use lib.ListN.{length};
 
 // What was shown, and how much of the output buffer is in use.
-pub struct Tally {
+struct Tally {
     at: usize,
     read: u64,
     refused: u64,
@@ -19,7 +21,7 @@ pub struct Tally {
 }
 
 // Where the input stands: the line so far, and what was shown of those before it.
-pub struct Input {
+struct Input {
     line: Line,
     tally: Tally,
 }
@@ -83,7 +85,7 @@ impl Tally {
 }
 
 impl Input {
-    pub fn new() -> Input {
+    fn new() -> Input {
         Input {
             line: Line::new(1),
             tally: Tally {
@@ -111,13 +113,7 @@ impl Input {
         }
     }
 
-    pub fn bytes(
-        self,
-        input: &[u8],
-        payload: &mut [u8],
-        space: &mut [u8],
-        out: &mut [u8],
-    ) -> Input {
+    fn bytes(self, input: &[u8], payload: &mut [u8], space: &mut [u8], out: &mut [u8]) -> Input {
         let mut s = self;
         let mut i: usize = 0;
         while i < input.len() {
@@ -128,7 +124,7 @@ impl Input {
     }
 
     // The last line, and the counts.
-    pub fn close(self, payload: &[u8], space: &mut [u8], out: &mut [u8]) -> usize {
+    fn close(self, payload: &[u8], space: &mut [u8], out: &mut [u8]) -> usize {
         let tally = self.tally;
         let all = tally.end_line(self.line, payload, space, &mut *out);
         let empty = if all.is_empty() { 1 } else { 0 };
@@ -144,4 +140,42 @@ impl Input {
             all.at,
         )
     }
+}
+
+// The payloads of an open file, up to its end or to a read that fails.
+pub fn all(
+    fd: i32,
+    input: &mut [u8],
+    payload: &mut [u8],
+    space: &mut [u8],
+    out: &mut [u8],
+) -> usize {
+    let mut s = Input::new();
+    let mut reads = u64::MAX;
+    while reads > 0 {
+        let n = read(fd, &mut *input);
+        s = s.bytes(&input[0..n], &mut *payload, &mut *space, &mut *out);
+        reads = left(reads, n);
+    }
+    s.close(payload, space, out)
+}
+
+// The reads that are left after one that brought so many bytes.
+fn left(reads: u64, n: usize) -> u64
+    ensures { λ r. ⌜ r ≤ reads - 1 ⌝ }
+{
+    if n == 0 {
+        return 0;
+    }
+    if reads == 0 { 0 } else { reads - 1 }
+}
+
+fn read(fd: i32, input: &mut [u8]) -> usize
+    ensures { λ r. ⌜ r ≤ length (now (input .exit)) ⌝ }
+{
+    let got = libc::read(fd, &mut *input);
+    if got < 0 {
+        os::fail(b"inspect: cannot read");
+    }
+    io::count(got, input)
 }

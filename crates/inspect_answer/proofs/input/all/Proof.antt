@@ -3,8 +3,8 @@ use mathlib.Core.Path.{_≡_}
 use Prim.Native.Nat.{_-_}
 use borrow.Author.Needs.{needs}
 use lib.ListN.{length}
-use Rattle.inspect.proofs.all.Statement.{statement}
-use Rattle.inspect.proofs.all.Tie as tie
+use Rattle.inspect_answer.proofs.input.all.Statement.{statement}
+use Rattle.inspect_answer.proofs.input.all.Tie as tie
 
 abbrev Inv-loop : tie.InvT-loop
 Inv-loop fd input₀ payload₀ space₀ out₀ s₀ reads₀ input payload space out s reads = (length input ≡ length input₀) × (length payload ≡ length payload₀) × (length space ≡ length space₀) × (length out ≡ length out₀)
