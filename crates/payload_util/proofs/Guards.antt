@@ -3,10 +3,10 @@
 use mathlib.Core.Path.{_≡_, refl, sym, ap, _∙_}
 use mathlib.Core.Bool.{Bool, true, false, _&&_}
 use mathlib.Core.List.{List}
-use Prim.Native.Nat.{ℕ, zero, suc, _+_, _*_, _/_, _%_, _≤_, _<_}
-use native.Mathlib.Nat.{div-add-mod', zero-mul, suc-mul, mul-mod-left}
+use Prim.Native.Nat.{ℕ, zero, suc, _+_, _*_, _/_, _%_, _≤_, _<_, min}
+use native.Mathlib.Nat.{div-add-mod', zero-mul, suc-mul, mul-mod-left, min-eq-left, min-eq-right, le-of-lt}
 use native.Mathlib.Omega.{arith}
-use borrow.Author.Tests.{leb-true, eqb-true, ltb-true, le-leb, lt-ltb, eq-eqb}
+use borrow.Author.Tests.{leb-true, leb-false, eqb-true, ltb-true, le-leb, lt-leb, lt-ltb, eq-eqb}
 use lib.ListN.{length, drop, length-drop}
 use lib.Dec.{leb, ltb, eqb}
 use Rattle.payload_util.specs.Refusals.{row, require, _also_, refusalOf}
@@ -118,6 +118,21 @@ room-pass code needed given h = leb-true _ _ (check-pass _ _ h)
 pub pass-room : (code needed given : ℕ) → needed ≤ given → room code needed given ≡ Pass
 unfolding room
 pass-room code needed given h = simp (le-leb _ _ h)
+
+abbrev pub largest : ℕ
+largest = 18446744073709551615
+
+module _ (code needed given : ℕ) where
+  -- row 15 by a need that is capped before the test
+  pub room-capped : {g : Guard} {n : ℕ} → given < largest → g ≡ room code n given → n ≡ min needed largest → g ≡ room code needed given
+  unfolding room
+  room-capped h p q = p ∙ ap (λ (m : ℕ). room code m given) q ∙ go (leb needed largest) refl
+    where
+      go : (t : Bool) → leb needed largest ≡ t → room code (min needed largest) given ≡ room code needed given
+      go true e = simp (min-eq-left (leb-true needed largest e))
+      go false e =
+          let l = leb-false needed largest e in
+          simp (min-eq-right (le-of-lt l), lt-leb needed given (omega arith), lt-leb largest given h)
 
 pub present-pass : (code index count : ℕ) → present code index count ≡ Pass → index < count
 unfolding present

@@ -61,6 +61,15 @@ pub two-parts : (code : ℕ) (h t out d e : List ℕ) → room code (length h + 
 two-parts code h t out d e fits p q =
     simp (length-append, fits, q, p, take-length, zero-add, take-append-seam, drop-append-add, drop-drop)
 
+-- d is the buffer with the head, e is d with the body after it, and g is e with the tail after both
+pub three-parts : (code n : ℕ) (h b t out d e g : List ℕ) → n ≡ length h + length b + length t → room code n (length out) ≡ Pass
+    → d ≡ paste out 0 h (length h) → e ≡ paste d (length h) b (length b) → g ≡ paste e (length h + length b) t (length t)
+    → (Wrote n, g) ≡ put code ((h ++ b) ++ t) out
+three-parts code n h b t out d e g is fits p q r =
+    let l : length h + length b ≡ length (h ++ b) = sym (length-append h b) in
+    let both : e ≡ paste out 0 (h ++ b) (length (h ++ b)) = rw (take-length, ← l) (simp (q, p, take-length, zero-add, take-append-seam, drop-append-add, drop-drop)) in
+    rw (is, l) (two-parts code (h ++ b) t out e g (rw (← l, ← is) fits) both (rw (← l) r))
+
 -- ---- a payload's first n bytes, one by one
 
 abbrev pub spell : ℕ → ℕ → List ℕ → List ℕ

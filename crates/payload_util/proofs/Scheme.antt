@@ -110,6 +110,11 @@ wrote g code bs out n e = go g (room code (length bs) (length out)) e
     go (Refused x) Pass k = let z : _≡_ {A = ℕ} 0 1 = cc in absurd (omega arith)
     go (Refused x) (Refused y) k = let z : _≡_ {A = ℕ} 0 1 = cc in absurd (omega arith)
 
+-- and the count is theirs
+pub counted : (g : Guard) (bs out : List ℕ) (n : ℕ) → effect g bs out .0 ≡ Wrote n → n ≡ length bs
+counted Pass bs out n e = cc
+counted (Refused x) bs out n e = let z : _≡_ {A = ℕ} 0 1 = cc in absurd (omega arith)
+
 -- ---- what writing leaves of the buffer
 
 pub leaves : (g : Guard) (code : ℕ) (bs out : List ℕ) → Leaves (putChecked g code bs out) out

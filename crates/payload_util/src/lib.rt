@@ -3,7 +3,7 @@ ghost use mathlib.Core.Path.{_≡_};
 ghost use mathlib.Core.Bool.{_&&_};
 ghost use mathlib.Core.List.{_++_};
 ghost use lib.Dec.{ltb, leb, eqb};
-ghost use Prim.Native.Nat.{_+_, _*_, _/_, _%_, _≤_, _<_};
+ghost use Prim.Native.Nat.{_+_, _*_, _/_, _%_, _≤_, _<_, min};
 ghost use lib.ListN.{length, drop};
 ghost use lib.Seq.{paste};
 ghost use Rattle.payload_util.specs.Refusals.{row, require, refusalOf};
@@ -112,7 +112,7 @@ pub fn require_multiple_of(payload: &[u8], block: usize, code: u8) -> Guard
 }
 
 // Row 6: the payload has as many bytes as its fields ask for.
-fn require_declared_len(payload: &[u8], asked: usize, code: u8) -> Guard
+pub fn require_declared_len(payload: &[u8], asked: usize, code: u8) -> Guard
     ensures { λ r. ⌜ r ≡ declaredLen asked code (now (payload .entry)) ⌝ }
 {
     require(payload.len() == asked, 6, code, 0, 0)
@@ -141,6 +141,17 @@ pub fn require_tail_len(tail: &[u8], asked: usize, code: u8) -> Guard
     ensures { λ r. ⌜ r ≡ tailLen asked code (now (tail .entry)) ⌝ }
 {
     require(tail.len() == asked, 13, code, 0, 0)
+}
+
+// How many bytes a buffer has to have for len bytes from an offset on, or the largest usize if that is more.
+pub fn end_need(offset: usize, len: usize) -> usize
+    ensures { λ r. ⌜ r ≡ min (offset + len) 18446744073709551615 ⌝ }
+{
+    if offset <= 0xFFFF_FFFF_FFFF_FFFF - len {
+        offset + len
+    } else {
+        0xFFFF_FFFF_FFFF_FFFF
+    }
 }
 
 // Row 15: the buffer has room for what is to be written.
@@ -347,6 +358,22 @@ pub fn put_bytes(head: &[u8], tail: &[u8], code: u8, out: &mut [u8]) -> Written
     };
     copy_at(head, out, 0);
     copy_at(tail, out, head.len());
+    Written::Wrote(needed)
+}
+
+// Writes three parts as put_bytes writes two.
+pub fn put_parts(head: &[u8], body: &[u8], tail: &[u8], code: u8, out: &mut [u8]) -> Written
+    ensures { λ r. ⌜ (r, now (out .exit)) ≡ put code ((now (head .entry) ++ now (body .entry)) ++ now (tail .entry)) (now (out .entry)) ⌝ }
+{
+    let last = head.len() + body.len();
+    let needed = end_need(last, tail.len());
+    let fits = require_room(needed, code, out.len());
+    let Guard::Pass = fits else {
+        return Written::Refused(fits.refusal());
+    };
+    copy_at(head, out, 0);
+    copy_at(body, out, head.len());
+    copy_at(tail, out, last);
     Written::Wrote(needed)
 }
 

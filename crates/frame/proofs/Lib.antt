@@ -1,0 +1,5 @@
+pub mod Back
+pub mod Examples
+pub mod Forth
+pub mod Laws
+pub mod Promises
