@@ -1,5 +1,6 @@
 //! What the oracle, the comparison and the bench share.
 pub mod chance;
+pub mod frame;
 pub mod kinds;
 pub mod payloads;
 pub mod read;

@@ -1,5 +1,6 @@
 //! Cases, and the original's answers to them.
 use crate::{model, records};
+use judge::frame::{self, Frame};
 use judge::kinds::{kind, Kind, Side};
 use judge::read::{read, read_of_kind, Written};
 use judge::refusal::{refusal, Refusal};
@@ -27,11 +28,24 @@ pub enum Case {
     ReadAt { place: usize, payload: Vec<u8> },
     /// One record of a list, to be written at a place of a buffer of so many bytes.
     WriteAt { code: u8, place: usize, room: usize, fixed: Vec<u8> },
+    /// A frame to be read.
+    Frame(Vec<u8>),
+    /// A frame to be written.
+    FrameWrite { frame: Frame, payload: Vec<u8> },
+    /// Both checks of some bytes. The CRC starts from the number, the sum from its low byte.
+    Checks(u16, Vec<u8>),
 }
 
 pub const TABLES: [&str; 8] =
     ["CommandCode", "ReplyCode", "LedColor", "BioType", "BioFormat", "OutputControlCode", "TextCommand", "NakErrorCode"];
 pub const GUARDS: [&str; 4] = ["exact", "least", "positive", "multiple"];
+/// The checks of a frame: without a CRC, and with one.
+pub const CHECKS: [&str; 2] = ["sum", "crc"];
+
+/// Of a frame's side and check.
+pub fn names(reply: bool, crc: bool) -> (&'static str, &'static str) {
+    (Side::BOTH[usize::from(reply)].name(), CHECKS[usize::from(crc)])
+}
 
 pub enum Answer {
     Refused(Refusal),
@@ -42,6 +56,8 @@ pub enum Answer {
     Wrote(Written),
     /// A payload that is accepted: fields, tail, the record written again, and what strict refuses.
     Read { kind: &'static Kind, parts: records::Parts, wrote: Written, strict: Option<Refusal> },
+    /// A frame that is accepted: what it says, and its payload.
+    Framed(Frame, Vec<u8>),
 }
 
 fn gave(r: Result<Vec<u8>, Error>) -> Answer {
@@ -136,6 +152,36 @@ fn bits(count: u16, bits: &[u8]) -> Answer {
     Answer::Gave(raw.iter_bits().map(u8::from).collect())
 }
 
+/// Stops if writing what was read does not return the frame.
+fn read_frame(bytes: &[u8]) -> Answer {
+    match frame::read(bytes) {
+        Ok((frame, payload)) => {
+            let again = frame::write(&frame, &payload);
+            assert!(again.is_ok_and(|f| f == bytes), "a frame of {} bytes that was read is not written as it was", bytes.len());
+            Answer::Framed(frame, payload)
+        }
+        Err(e) => Answer::Refused(e),
+    }
+}
+
+/// Stops if what was written is not read as the same.
+fn write_frame(frame: &Frame, payload: &[u8]) -> Answer {
+    match frame::write(frame, payload) {
+        Ok(bytes) => {
+            let again = frame::read(&bytes);
+            assert!(again.is_ok_and(|(f, p)| f == *frame && p == payload), "a frame of {} bytes is not read as it was written", bytes.len());
+            Answer::Gave(bytes)
+        }
+        Err(e) => Answer::Refused(e),
+    }
+}
+
+fn checks(start: u16, bytes: &[u8]) -> Answer {
+    let [low, high] = frame::crc(start, bytes).to_le_bytes();
+    let sum = frame::sum(start as u8, bytes);
+    Answer::Gave(vec![low, high, sum, frame::complement(sum)])
+}
+
 pub fn answer(case: &Case) -> Answer {
     match case {
         Case::Table(which, b) => table(*which, *b),
@@ -147,5 +193,8 @@ pub fn answer(case: &Case) -> Answer {
         Case::Walk { place, payload } => walk(*place, payload),
         Case::ReadAt { place, payload } => read_at(*place, payload),
         Case::WriteAt { code, place, room, fixed } => write_at(*code, *place, *room, fixed),
+        Case::Frame(bytes) => read_frame(bytes),
+        Case::FrameWrite { frame, payload } => write_frame(frame, payload),
+        Case::Checks(start, bytes) => checks(*start, bytes),
     }
 }

@@ -2,13 +2,16 @@
 //!   oracle          one answer a line
 //!   oracle pack     the cases with their answers, in the vector format
 //!   oracle examples    lines `CASE => WORDS`: whether each answer begins with these words, and how many do
+//!   oracle frames COUNT SEED    so many frames by chance with their answers, in the vector format; standard input is not read
 //! README.md has the forms of cases and answers.
 mod answer;
+mod frames;
 mod model;
 mod pack;
 mod records;
 
-use answer::{answer, Answer, Case, GUARDS, TABLES};
+use answer::{answer, names, Answer, Case, CHECKS, GUARDS, TABLES};
+use judge::frame::Frame;
 use judge::kinds::{Side, KINDS};
 use judge::read::Written;
 use judge::refusal::Refusal;
@@ -45,6 +48,21 @@ fn number(s: &str) -> Option<usize> {
     s.parse().ok()
 }
 
+/// Decimal, or 0x and hex digits.
+fn seed(s: &str) -> Option<u64> {
+    s.strip_prefix("0x").map_or_else(|| s.parse().ok(), |hex| u64::from_str_radix(hex, 16).ok())
+}
+
+fn frame_of(code: &str, address: &str, side: &str, sequence: &str, check: &str) -> Option<Frame> {
+    Some(Frame {
+        address: byte(address)?,
+        reply: Side::named(side)? == Side::Reply,
+        sequence: sequence.parse().ok()?,
+        crc: CHECKS.iter().position(|c| *c == check)? == 1,
+        code: byte(code)?,
+    })
+}
+
 fn parse(line: &str) -> Option<Case> {
     let w: Vec<&str> = line.split_ascii_whitespace().collect();
     let payload = |of_kind, what, code, data| {
@@ -65,6 +83,11 @@ fn parse(line: &str) -> Option<Case> {
         ["write-at", code, place, room, fixed] => {
             Some(Case::WriteAt { code: byte(code)?, place: number(place)?, room: number(room)?, fixed: bytes(fixed)? })
         }
+        ["frame", data] => Some(Case::Frame(bytes(data)?)),
+        ["frame-write", code, address, side, sequence, check, data] => {
+            Some(Case::FrameWrite { frame: frame_of(code, address, side, sequence, check)?, payload: bytes(data)? })
+        }
+        ["checks", start, data] => Some(Case::Checks(start.parse().ok()?, bytes(data)?)),
         [what, code, data] => payload(false, what, code, data),
         _ => None,
     }
@@ -99,6 +122,10 @@ fn text(a: &Answer) -> String {
             let strict = strict.map_or("passed".into(), |e| refused(&e));
             format!("read {} {} wrote {} strict {strict}{}", hex(&parts.fixed), hex(&parts.tail), hex(&wrote.bytes), differs(wrote))
         }
+        Answer::Framed(f, payload) => {
+            let (side, check) = names(f.reply, f.crc);
+            format!("read {:02X} {side} {} {check} {:02X} {}", f.address, f.sequence, f.code, hex(payload))
+        }
     }
 }
 
@@ -107,13 +134,18 @@ fn stop(why: &str) -> ! {
     std::process::exit(1)
 }
 
-fn answered(number: usize, line: &str) -> (Case, Answer) {
-    let case = parse(line).unwrap_or_else(|| stop(&format!("line {number} is no case")));
+/// A case with its answer; `place` says where it is from.
+fn with_answer(place: std::fmt::Arguments, case: Case) -> (Case, Answer) {
     let answer = std::panic::catch_unwind(|| answer(&case)).unwrap_or_else(|e| {
         let why = e.downcast_ref::<String>().map_or("the original panicked", |s| s);
-        stop(&format!("line {number}: {why}"))
+        stop(&format!("{place}: {why}"))
     });
     (case, answer)
+}
+
+fn answered(number: usize, line: &str) -> (Case, Answer) {
+    let case = parse(line).unwrap_or_else(|| stop(&format!("line {number} is no case")));
+    with_answer(format_args!("line {number}"), case)
 }
 
 /// Whether an answer begins with these words, of which there is at least one. Each is a whole word; bytes may be spelt as in a case.
@@ -162,11 +194,10 @@ fn answers(out: &mut impl Write) {
     }
 }
 
-/// Whether every row and every difference occurred, and every kind was read and written.
-fn packed(out: &mut impl Write) -> bool {
+/// Packs the cases, and the end of the stream.
+fn packed(out: &mut impl Write, cases: impl Iterator<Item = (Case, Answer)>) -> pack::Tally {
     let (mut tally, mut bytes) = (pack::Tally::default(), Vec::new());
-    for (number, line) in lines() {
-        let (case, answer) = answered(number, &line);
+    for (case, answer) in cases {
         bytes.clear();
         pack::pack(&mut bytes, &mut tally, &case, &answer);
         put(out, &bytes);
@@ -174,7 +205,14 @@ fn packed(out: &mut impl Write) -> bool {
     bytes.clear();
     tally.end(&mut bytes);
     put(out, &bytes);
-    tally.report()
+    tally
+}
+
+/// Whether every refusal of a frame occurred, and each side was read and written with each check.
+fn by_chance(out: &mut impl Write, count: &str, seed_of: &str) -> bool {
+    let (Some(count), Some(seed)) = (number(count), seed(seed_of)) else { stop("COUNT and SEED are numbers") };
+    let cases = (1..=count).zip(frames::cases(seed));
+    packed(out, cases.map(|(number, case)| with_answer(format_args!("case {number}"), case))).report_of_frames()
 }
 
 fn main() {
@@ -183,14 +221,16 @@ fn main() {
     std::panic::set_hook(Box::new(|_| {}));
     let mut out = std::io::BufWriter::with_capacity(1 << 20, std::io::stdout().lock());
     let arguments: Vec<String> = std::env::args().skip(1).collect();
-    let is_good = match &arguments.join(" ")[..] {
-        "" => {
+    let is_good = match arguments.iter().map(|a| &a[..]).collect::<Vec<_>>()[..] {
+        [] => {
             answers(&mut out);
             true
         }
-        "pack" => packed(&mut out),
-        "examples" => examples(&mut out),
-        _ => stop("usage: oracle [pack | examples]"),
+        // whether every row and every difference occurred, every kind was read and written, and frames were
+        ["pack"] => packed(&mut out, lines().map(|(number, line)| answered(number, &line))).report(),
+        ["examples"] => examples(&mut out),
+        ["frames", count, seed] => by_chance(&mut out, count, seed),
+        _ => stop("usage: oracle [pack | examples | frames COUNT SEED]"),
     };
     out.flush().unwrap_or_else(|e| stop(&e.to_string()));
     std::process::exit(if is_good { 0 } else { 1 })

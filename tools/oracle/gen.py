@@ -10,6 +10,7 @@ from pathlib import Path
 
 sys.dont_write_bytecode = True
 sys.path.insert(0, str(Path(__file__).resolve().parent.parent))
+from frames import frames
 from kinds import KINDS, is_tail, span, width
 
 LIMIT = max(k.most for k in KINDS)  # the longest payload that the calls by code take
@@ -119,9 +120,10 @@ def case(kind, payload):
     return f"{kind.side} {kind.code:02X} {spell(payload)}"
 
 
-def examples():
+def examples(of_frames):
+    """those that are about frames, or the others"""
     for line in (Path(__file__).parent / "examples.txt").read_text(encoding="utf-8").splitlines():
-        if line and not line.startswith("#"):
+        if line and not line.startswith("#") and line.startswith(("frame", "checks")) == of_frames:
             yield line.split(" => ")[0]
 
 
@@ -376,7 +378,7 @@ def places(scale):
 
 
 def cases(scale):
-    yield from examples()
+    yield from examples(of_frames=False)
     yield from tables()
     yield from guards()
     yield from by_code()
@@ -393,6 +395,8 @@ def cases(scale):
     yield from records(scale)
     yield from walks(scale)
     yield from places(scale)
+    yield from examples(of_frames=True)
+    yield from (case for case, _ in frames())
 
 
 for line in dict.fromkeys(cases(int(sys.argv[1]) if len(sys.argv) > 1 else 1)):

@@ -7,7 +7,7 @@ use Prim.Native.Nat.{ℕ, zero, suc, _+_, _*_, _%_, _<_}
 use native.Mathlib.Omega.{arith}
 use lib.Bits.{bitXor, xor-lt}
 use lib.Dec.{ltb}
-use Rattle.crc.specs.Crc.{shifted, crcBit, crcBits, crcByte, crcOf}
+use Rattle.crc.specs.Crc.{polynomial, shifted, crcBit, crcBits, crcByte, crcOf}
 use Rattle.crc.specs.Sum.{sumOf}
 
 -- the sum goes on in the same way from starts that are equal modulo 256
@@ -27,9 +27,9 @@ bit-lt : (c : ℕ) → crcBit c < 65536
 unfolding crcBit
 bit-lt c = one (ltb c 0x8000)
   where
-    one : (t : Bool) → cond t (shifted c) (bitXor (shifted c) 0x1021) < 65536
+    one : (t : Bool) → cond t (shifted c) (bitXor (shifted c) polynomial) < 65536
     one true = omega arith
-    one false = xor-lt 16 (shifted c) 0x1021 (omega arith) (omega arith)
+    one false = xor-lt 16 (shifted c) polynomial (omega arith) (omega arith)
 
 bits-lt : (n c : ℕ) → c < 65536 → crcBits n c < 65536
 unfolding crcBits

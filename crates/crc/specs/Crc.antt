@@ -5,13 +5,16 @@ use mathlib.Core.List.{List, foldl}
 use lib.Bits.{bitXor}
 use lib.Dec.{ltb}
 
+abbrev pub polynomial : ℕ
+polynomial = 0x1021
+
 -- the 16 bits move up by one
 abbrev pub shifted : ℕ → ℕ
 shifted c = c * 2 % 65536
 
 -- one bit: if the bit that moves out at the top is 1, the polynomial goes in
 unfoldable pub crcBit : ℕ → ℕ
-crcBit c = cond (ltb c 0x8000) (shifted c) (bitXor (shifted c) 0x1021)
+crcBit c = cond (ltb c 0x8000) (shifted c) (bitXor (shifted c) polynomial)
 
 -- n bits
 unfoldable pub crcBits : ℕ → ℕ → ℕ

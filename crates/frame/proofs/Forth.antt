@@ -14,7 +14,7 @@ use Rattle.payload_util.specs.Outcome.{gives}
 use Rattle.payload_util.specs.declared.Guard.the-variants.{Pass}
 use Rattle.crc.proofs.Laws.{crc-lt}
 use Rattle.frame.specs.declared.Frame.{Frame}
-use Rattle.frame.specs.Frame.{asksCrc, checkOver, checkLen, checkBytes, checkAt, checkFrame, readFrame, framePayload, frameLen, refuseFrame, bodyBytes, frameBytes}
+use Rattle.frame.specs.Frame.{crcStart, checkOver, checkLen, checkBytes, checkAt, checkFrame, readFrame, framePayload, frameLen, refuseFrame, bodyBytes, frameBytes}
 use Rattle.frame.proofs.Laws.{Accepted, accepts, Writable, writable}
 
 -- a number of two bytes at a list's end, and of one
@@ -32,7 +32,7 @@ check-forth : (crc : Bool) (s : List ℕ) → u16At (s ++ checkBytes crc s) (che
 unfolding checkOver
 check-forth true s =
     let v = checkOver true s in
-    let small : v < 65536 = crc-lt s 0x1D0F (omega arith) in
+    let small : v < 65536 = crc-lt s crcStart (omega arith) in
     u16-at-end s (v % 256) (v / 256) _ (omega (arith, length-append s (v % 256 ∷ v / 256 ∷ []))) ∙ omega arith
 check-forth false s =
     let v = checkOver false s in

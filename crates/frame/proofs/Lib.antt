@@ -1,4 +1,5 @@
 pub mod Back
+pub mod CodeBytes
 pub mod Examples
 pub mod Forth
 pub mod Laws

@@ -9,12 +9,15 @@ use Rattle.codes.specs.{CommandCode.readCommand, ReplyCode.readReply}
 use Rattle.crc.specs.{Crc.crcOf, Sum.sumOf, Sum.twosComplement}
 use Rattle.frame.specs.declared.{Frame.Frame, FrameRead.FrameRead, FrameRead.the-variants.Read, FrameRead.the-variants.Refused}
 
--- the first byte of every frame, and the house limit
+-- the first byte of every frame, the house limit, and what the CRC starts from
 abbrev pub som : ℕ
 som = 0x53
 
 abbrev pub longest : ℕ
 longest = 1440
+
+abbrev pub crcStart : ℕ
+crcStart = 0x1D0F
 
 -- a reply's address has its top bit set
 abbrev pub isReply : List ℕ → Bool
@@ -29,7 +32,7 @@ fieldsOf f = record { address = byteAt f 1 % 128; reply = isReply f; sequence = 
 
 -- the check of bytes, as a number: their CRC, or the two's complement of their sum
 unfoldable pub checkOver : Bool → List ℕ → ℕ
-checkOver crc s = cond crc (crcOf 0x1D0F s) (twosComplement (sumOf 0 s))
+checkOver crc s = cond crc (crcOf crcStart s) (twosComplement (sumOf 0 s))
 
 -- it has two bytes or one, low byte first
 abbrev pub checkLen : Bool → ℕ

@@ -1,7 +1,9 @@
 -- The theorems of frames.
 use Rattle.payload_util.specs.{Bytes.Bytes, Writing.Leaves}
-use Rattle.payload_util.specs.Prelude.{_≡_, List, ℕ, _≤_, take, gives, put}
-use Rattle.payload_util.specs.declared.Written.the-variants.{Wrote}
+use mathlib.Core.Logic.{_⊎_}
+use Rattle.payload_util.specs.Prelude.{_≡_, List, ℕ, _≤_, take, byteAt, row, gives, refuses, put}
+use Rattle.payload_util.specs.declared.{Refusal.Refusal}
+use Rattle.payload_util.specs.declared.Written.the-variants.{Wrote, Refused as NotWritten}
 use Rattle.frame.specs.declared.Frame.{Frame}
 use Rattle.frame.specs.Frame.{longest, readFrame, payloadIn, framePayload, writeFrame}
 
@@ -21,6 +23,13 @@ ReadsBack =
 -- the payload of a frame that was read, without its check
 abbrev pub SamePayload : Type 0
 SamePayload = (f : List ℕ) (r : Frame) → readFrame f ≡ gives r → payloadIn r f ≡ framePayload f
+
+-- R102.13: a refusal of the reader has code byte 0, or is that of an unknown code; one of the writer has the code given
+abbrev pub CodeBytes : Type 0
+CodeBytes =
+    ((f : List ℕ) (e : Refusal) → readFrame f ≡ refuses e
+    → (e .code ≡ 0) ⊎ (e ≡ row 1 (byteAt f 5) 0 0) ⊎ (e ≡ row 2 (byteAt f 5) 0 0))
+    × ((r : Frame) (p out : List ℕ) (e : Refusal) → writeFrame r p out .0 ≡ NotWritten e → e .code ≡ r .code)
 
 -- R7.2: what a writer leaves of a buffer
 abbrev pub Untouched : Type 0

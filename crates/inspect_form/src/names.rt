@@ -29,7 +29,8 @@ pub(crate) fn name(letter: u8, n: u64, before: &[u8], out: &mut [u8], at: usize)
           declared length or count is not the payload's.output code above 6.text byte not printable.\
           TEXT command not 1 to 4.NAK error above 9.list without records.tail too long.count is not the tail's.\
           code known, payload not carried.output buffer too short (needed, given).no such record (record, how many).\
-          byte that reading would fold (offset, byte)...........payload too long (longest, got)\
+          byte that reading would fold (offset, byte)...not a frame's first byte, control byte, address or sequence.\
+          wrong check of a frame.above the house limit......payload too long (longest, got)\
           ;%e the line has to begin with command or reply, not with .no code byte after the word.\
           the code byte has to have two hex digits.not a hex digit.half a byte, its second hex digit is missing.\
           payload of more than 65,547 bytes",

@@ -9,7 +9,7 @@ use vectors_write::place;
 use vectors_write::writer;
 
 // The highest class of a case.
-pub const LAST: u8 = 14;
+pub const LAST: u8 = 17;
 
 // How many times a case is tried.
 const TRIES: usize = 4;
@@ -61,6 +61,9 @@ fn once(c: Case, input: &[u8], want: &[u8], out: &mut [u8]) -> bool {
         12 => walker::run(c, input, want),
         13 => list::record_at(c, input, want),
         14 => place::run(c, input, want, out),
+        15 => vectors_frame::read(c, input, want, out),
+        16 => vectors_frame::write(c, input, want, out),
+        17 => vectors_frame::checks(c, input, want),
         _ => false,
     }
 }

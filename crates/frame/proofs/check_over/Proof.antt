@@ -3,7 +3,7 @@ use mathlib.Core.Path.{ap, _∙_}
 use borrow.Author.Needs.{needs}
 use Rattle.crc.specs.{Crc.crcOf, Sum.sumOf, Sum.twosComplement}
 use Rattle.crc.proofs.Laws.{crc-parts, sum-parts}
-use Rattle.frame.specs.Frame.{checkOver}
+use Rattle.frame.specs.Frame.{crcStart, checkOver}
 use Rattle.frame.proofs.check_over.Statement.{statement}
 use Rattle.frame.proofs.check_over.Tie as tie
 
@@ -11,7 +11,7 @@ returns : tie.Need-returns
 unfolding checkOver
 returns c =
     let a = c .before .before .before .before .before .args in
-    rw (c .before .before .if1 .taken) (c .crc2 .ensures ∙ rw (c .before .crc .ensures) (crc-parts 0x1D0F (a .head .now) (a .payload .now)))
+    rw (c .before .before .if1 .taken) (c .crc2 .ensures ∙ rw (c .before .crc .ensures) (crc-parts crcStart (a .head .now) (a .payload .now)))
 
 returns-2 : tie.Need-returns-2
 unfolding checkOver
