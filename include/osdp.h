@@ -42,6 +42,10 @@ enum osdp_refusal {
     OSDP_NAK_ERROR = 10,          /* a NAK error above 9 */
     OSDP_NOT_CARRIED = 14,        /* the code is known, but its payload is not carried here */
     OSDP_NO_ROOM = 15,            /* the output buffer is too short */
+    /* of frames, which no call of this header takes or gives */
+    OSDP_FRAME = 20,              /* not a frame's first byte or control byte; or an address or sequence that no frame has */
+    OSDP_FRAME_CHECK = 21,        /* the check of a frame is wrong */
+    OSDP_HOUSE_LIMIT = 22,        /* a frame above 1,440 bytes */
     OSDP_TOO_LONG = 28            /* the payload is longer than OSDP_LONGEST */
 };
 

@@ -7,12 +7,12 @@ use Rattle.payload_util.specs.declared.Written.the-variants.{Wrote, Refused as 
 use Rattle.frame.specs.declared.Frame.{Frame}
 use Rattle.frame.specs.Frame.{longest, readFrame, payloadIn, framePayload, writeFrame}
 
--- R102.10: writing what was read puts the frame into every buffer, or refuses by row 15 with the frame's length
+-- R102.8: writing what was read puts the frame into every buffer, or refuses by row 15 with the frame's length
 abbrev pub WritesBack : Type 0
 WritesBack =
     (f out : List ℕ) (r : Frame) → Bytes f → readFrame f ≡ gives r → writeFrame r (framePayload f) out ≡ put (r .code) f out
 
--- what is written is read as the same record and payload, and is no longer than the house limit
+-- R102.9, R102.10: what is written is read as the same record and payload, and is no longer than the house limit
 abbrev pub ReadsBack : Type 0
 ReadsBack =
     (r : Frame) (p out : List ℕ) (n : ℕ) → writeFrame r p out .0 ≡ Wrote n
@@ -20,7 +20,7 @@ ReadsBack =
     × (framePayload (take n (writeFrame r p out .1)) ≡ p)
     × (n ≤ longest)
 
--- the payload of a frame that was read, without its check
+-- R102.7: the part of a frame that was read, without a second look at its check, is its payload
 abbrev pub SamePayload : Type 0
 SamePayload = (f : List ℕ) (r : Frame) → readFrame f ≡ gives r → payloadIn r f ≡ framePayload f
 
