@@ -61,9 +61,7 @@ fn once(c: Case, input: &[u8], want: &[u8], out: &mut [u8]) -> bool {
         12 => walker::run(c, input, want),
         13 => list::record_at(c, input, want),
         14 => place::run(c, input, want, out),
-        15 => vectors_frame::read(c, input, want, out),
-        16 => vectors_frame::write(c, input, want, out),
-        17 => vectors_frame::checks(c, input, want),
+        15..=17 => vectors_frame::run(c, input, want, out),
         _ => false,
     }
 }

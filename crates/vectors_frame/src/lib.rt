@@ -68,33 +68,8 @@ fn is_read(c: Case, f: &[u8], want: &[u8]) -> bool {
     }
 }
 
-// Class 15. The wanted output has the fields and then the payload; what was read is written again, and has to be the frame.
-pub fn read(c: Case, f: &[u8], want: &[u8], out: &mut [u8]) -> bool
-    ensures { λ _. ⌜ length (now (out .exit)) ≡ length (now (out .entry)) ⌝ }
-{
-    let inside = between(want, FIELDS, 0);
-    let is_right = c.guards(Frame::check(f))
-        && is_read(c, f, want)
-        && is_inside(c, f)
-        && check::same(Frame::payload(f), inside);
-    if !is_right {
-        return false;
-    }
-    if c.row != 0 {
-        return true;
-    }
-    let n = out.len();
-    let room = c.room;
-    if n < room {
-        return false;
-    }
-    put(&mut *out, 0, n, c.fill);
-    let written = record(want, c.code).encode(Frame::payload(f), &mut out[0..room]);
-    wrote(c, written, f, out)
-}
-
-// Class 16. The input has the fields without the code, and then the payload.
-pub fn write(c: Case, input: &[u8], want: &[u8], out: &mut [u8]) -> bool
+// Whether a frame is written as wanted.
+fn is_written(c: Case, r: Frame, payload: &[u8], want: &[u8], out: &mut [u8]) -> bool
     ensures { λ _. ⌜ length (now (out .exit)) ≡ length (now (out .entry)) ⌝ }
 {
     let n = out.len();
@@ -103,13 +78,26 @@ pub fn write(c: Case, input: &[u8], want: &[u8], out: &mut [u8]) -> bool
         return false;
     }
     put(&mut *out, 0, n, c.fill);
-    let payload = between(input, GIVEN, 0);
-    let written = record(input, c.code).encode(payload, &mut out[0..room]);
+    let written = r.encode(payload, &mut out[0..room]);
     wrote(c, written, want, out)
 }
 
+// Class 15. The wanted output has the fields and then the payload; what was read is written again, and has to be the frame.
+fn read(c: Case, f: &[u8], want: &[u8], out: &mut [u8]) -> bool
+    ensures { λ _. ⌜ length (now (out .exit)) ≡ length (now (out .entry)) ⌝ }
+{
+    let is_right = c.guards(Frame::check(f))
+        && is_read(c, f, want)
+        && is_inside(c, f)
+        && check::same(Frame::payload(f), between(want, FIELDS, 0));
+    if c.row != 0 {
+        return is_right;
+    }
+    is_right && is_written(c, record(want, c.code), Frame::payload(f), f, out)
+}
+
 // Class 17. The bytes as a whole and in two parts have the wanted CRC and sum; the argument is the start, its low byte that of the sum.
-pub fn checks(c: Case, input: &[u8], want: &[u8]) -> bool {
+fn checks(c: Case, input: &[u8], want: &[u8]) -> bool {
     let start = (c.argument % 65536) as u16;
     let first = (c.argument % 256) as u8;
     let one = part(input, 0, input.len() / 2);
@@ -120,4 +108,22 @@ pub fn checks(c: Case, input: &[u8], want: &[u8]) -> bool {
     check::same(&[bytes[0], bytes[1], sum, crc::twos_complement(sum)], want)
         && crc::crc(crc::crc(start, one), other) == whole
         && crc::sum(crc::sum(first, one), other) == sum
+}
+
+// The input of class 16 has the fields without the code, and then the payload.
+pub fn run(c: Case, input: &[u8], want: &[u8], out: &mut [u8]) -> bool
+    ensures { λ _. ⌜ length (now (out .exit)) ≡ length (now (out .entry)) ⌝ }
+{
+    let class = c.class;
+    match class {
+        15 => read(c, input, want, out),
+        16 => is_written(
+            c,
+            record(input, c.code),
+            between(input, GIVEN, 0),
+            want,
+            out,
+        ),
+        _ => checks(c, input, want),
+    }
 }

@@ -1,6 +1,5 @@
 -- `Frame::encode` meets its contract. Assumes nothing.
 use mathlib.Core.Path.{_≡_, sym, _∙_}
-use mathlib.Core.List.{[], _∷_}
 use native.Mathlib.Omega.{arith}
 use borrow.Author.Needs.{needs}
 use denote.Ref.{now}
@@ -31,8 +30,7 @@ cast-head : tie.Need-cast-head
 cast-head c = record { fits = omega (arith, fit c .short, c .before .before .before .check-len .ensures .0) }
 
 lent : tie.Need-slice-aggregate-put-parts-2
-lent c =
-    sym (length-take-le (c .before .before .before .before .before .before .before .before .before .before .check-len .result) (c .before .before .before .low-byte .result ∷ c .before .before .high-byte .result ∷ []) (omega (arith, c .before .before .before .before .before .before .before .before .before .before .check-len .ensures .2)))
+lent c = sym (length-take-le _ _ (omega (arith, c .before .before .before .before .before .before .before .before .before .before .check-len .ensures .2)))
 
 returns-2 : tie.Need-returns-2
 returns-2 c =
