@@ -1,9 +1,10 @@
-//! Times of the C calls, of the readers and of the original Rust on the same payloads: bench [count]
+//! Times of the C calls, of the readers and of the original Rust on the same payloads, and of frames beside a plain Rust: bench [count]
 //! A line for each kind, size and call: KIND SIZE CALL NANOSECONDS, the median of interleaved rounds. With `count`, each call is made once in
 //! `measured`, for callgrind, and the lines have no time. Built with cfg `beside`, a second library's calls are measured too.
 //! Before anything is measured, each call is made at every place that it is measured at, and its answer and the output are held to what the
-//! original gives; so are the answers of the measured calls, and the output they leave. What is wrong is named, and the program exits with 1.
+//! Rust gives; so are the answers of the measured calls, and the output they leave. What is wrong is named, and the program exits with 1.
 mod calls;
+mod frames;
 mod number;
 
 use calls::{calls, Call, Run};
@@ -30,8 +31,10 @@ const BEHIND: usize = 64;
 /// What they hold, and the output's bytes where a call has to write none.
 const UNTOUCHED: u8 = 0xA5;
 
+/// A payload or a frame, and what is called on it.
 struct Case {
-    kind: &'static Kind,
+    name: &'static str,
+    code: u8,
     payload: Vec<u8>,
     calls: Vec<Call>,
 }
@@ -39,11 +42,11 @@ struct Case {
 impl Case {
     fn new(kind: &'static Kind, payload: Vec<u8>) -> Case {
         let calls = calls(kind, &payload);
-        Case { kind, payload, calls }
+        Case { name: kind.name, code: kind.code, payload, calls }
     }
 
     fn named(&self, call: &Call, what: String) -> String {
-        format!("{}, {} bytes, {}: {what}", self.kind.name, self.payload.len(), call.name)
+        format!("{}, {} bytes, {}: {what}", self.name, self.payload.len(), call.name)
     }
 }
 
@@ -107,7 +110,7 @@ fn faults(case: &Case, memory: &mut Memory, rounds: usize) -> Vec<String> {
         (0..rounds)
             .find_map(|round| {
                 let (p, room) = memory.place(&case.payload, round);
-                wrong(call, made, case.kind.code, p, room)
+                wrong(call, made, case.code, p, room)
             })
             .map(|what| case.named(call, what))
     };
@@ -152,7 +155,7 @@ fn wrong_round(call: &Call, times: u32, sum: i32, last: bool, room: &[u8]) -> Op
 
 /// Prints the medians, and answers what was wrong.
 fn compare_times(case: &Case, memory: &mut Memory) -> Vec<String> {
-    let (code, n) = (case.kind.code, case.payload.len());
+    let (code, n) = (case.code, case.payload.len());
     let (p, room) = memory.place(&case.payload, 0);
     let times: Vec<u32> = case.calls.iter().map(|call| how_often(call, code, p, &mut room[..n])).collect();
     let mut took = vec![Vec::new(); times.len()];
@@ -171,7 +174,7 @@ fn compare_times(case: &Case, memory: &mut Memory) -> Vec<String> {
     }
     for (call, took) in case.calls.iter().zip(&mut took) {
         took.sort_by(f64::total_cmp);
-        println!("{}\t{n}\t{}\t{:.2}", case.kind.name, call.name, took[ROUNDS / 2]);
+        println!("{}\t{n}\t{}\t{:.2}", case.name, call.name, took[ROUNDS / 2]);
     }
     case.calls.iter().zip(faults).filter_map(|(call, fault)| Some(case.named(call, fault?))).collect()
 }
@@ -182,26 +185,27 @@ fn count(case: &Case, memory: &mut Memory) -> Vec<String> {
     let (p, room) = memory.place(&case.payload, 0);
     for call in &case.calls {
         for make in [made, measured] {
-            faults.extend(wrong(call, make, case.kind.code, p, room).map(|what| case.named(call, what)));
+            faults.extend(wrong(call, make, case.code, p, room).map(|what| case.named(call, what)));
         }
-        println!("{}\t{}\t{}", case.kind.name, p.len(), call.name);
+        println!("{}\t{}\t{}", case.name, p.len(), call.name);
     }
     faults
 }
 
-/// Payloads that normalising leaves as they are, and that the original's writer takes.
+/// Payloads that normalising leaves as they are, and that the original's writer takes; and frames that are accepted.
 fn timed() -> Vec<Case> {
     let mut r = Chance::new(1);
     let mut case = |k: &'static Kind, n| {
         assert!(k.near(n) == n, "{} has no {n} bytes", k.name);
         Case::new(k, k.agreed(n, &mut r))
     };
-    KINDS.iter().flat_map(|k| k.timed.iter().map(move |&n| (k, n))).map(|(k, n)| case(k, n)).collect()
+    let kinds = KINDS.iter().flat_map(|k| k.timed.iter().map(move |&n| (k, n)));
+    kinds.map(|(k, n)| case(k, n)).chain(frames::timed()).collect()
 }
 
-/// Every kind refuses the empty payload, so that a call that accepts everything is noticed.
+/// Every kind refuses the empty payload, so that a call that accepts everything is noticed; frames are refused in several ways.
 fn refused() -> Vec<Case> {
-    KINDS.iter().map(|k| Case::new(k, Vec::new())).collect()
+    KINDS.iter().map(|k| Case::new(k, Vec::new())).chain(frames::refused()).collect()
 }
 
 fn main() {

@@ -125,7 +125,7 @@ fn copy(_: u8, p: &[u8], out: &mut [u8]) -> i32 {
 }
 
 /// A call of nothing: its time is that of the loop that measures, and of a call by pointer.
-fn nothing(_: u8, _: &[u8], _: &mut [u8]) -> i32 {
+pub fn nothing(_: u8, _: &[u8], _: &mut [u8]) -> i32 {
     0
 }
 

@@ -1,4 +1,5 @@
-//! A record of the original as the number that crates/bench_read answers with: see number.rt, list.rt and exact.rt there.
+//! A record of the original, and a frame, as the number that crates/bench_read answers with: see number.rt, list.rt, exact.rt and frames.rt there.
+use judge::frame::Frame;
 use osdp::command::{self as cmd, led::LedRecord, output::OutputRecord};
 use osdp::reply as rep;
 
@@ -31,6 +32,10 @@ fn output(r: &OutputRecord) -> u64 {
 
 fn head(reader: u8, bio_type: cmd::BioType, bio_format: cmd::BioFormat, quality: u8) -> u64 {
     sum([reader, bio_type.as_byte(), bio_format.as_byte(), quality])
+}
+
+pub fn frame_number(r: &Frame, payload: &[u8]) -> i32 {
+    tailed(sum([r.address, u8::from(r.reply), r.sequence, u8::from(r.crc), r.code]), payload)
 }
 
 pub trait Number {

@@ -59,9 +59,12 @@ def counts():
 RUNS = {AS_MEASURED: {p: runs(p) for p in PLACES}}
 RUNS[LOOP_OFF] = {p: [without_loop(run) for run in RUNS[AS_MEASURED][p]] for p in PLACES}
 N = counts()
-KEYS = list(RUNS[AS_MEASURED]["1"][0])
+MEASURED = list(RUNS[AS_MEASURED]["1"][0])
+KEYS = [key for key in MEASURED if key[0] in {k.name for k in kinds.KINDS}]
 KINDS = list(dict.fromkeys(k for k, _ in KEYS))
 SIZES = {k: [n for kind, n in KEYS if kind == k] for k in KINDS}
+FRAMES = [key for key in MEASURED if key[0].endswith(" frame")]
+CRC = next(key for key in MEASURED if key[0] == "CRC")
 CALLS = list(RUNS[AS_MEASURED]["1"][0][KEYS[0]])
 BESIDE = "check-beside" in CALLS
 
@@ -100,15 +103,16 @@ def worst(call, other, measure, keys):
 
 # The targets
 
-NAMES = {"decode": "the Rust's decode", "decode+encode": "the Rust's decode and encode", "memcpy": "memcpy"}
+NAMES = {"decode": "the Rust's decode", "decode+encode": "the Rust's decode and encode", "memcpy": "memcpy",
+         "rust-read": "the Rust's frame reader", "rust-write": "the Rust's frame writer"}
 
 
 class Target:
     """A call takes at most so much of another's time, at some sizes; the measure is the one on which this is held."""
 
-    def __init__(self, call, other, limit, where, measure, at):
+    def __init__(self, call, other, limit, where, measure, at, among=KEYS):
         self.call, self.other, self.limit, self.where, self.measure = call, other, limit, where, measure
-        self.keys = [key for key in KEYS if at(*key)]
+        self.keys = [key for key in among if at(*key)]
         if not self.keys:
             sys.exit(f"report.py: nothing was measured for the target of {call}, {where}")
 
@@ -138,6 +142,8 @@ TARGETS = (
     Target("normalise", "decode+encode", 0.5, "other sizes", AS_MEASURED, lambda kind, size: size > 64 and not led_long(kind, size)),
     Target("normalise", "memcpy", 1.5, f"the longest size, from {LONG:,} bytes on, where the tail is copied unread", AS_MEASURED,
            lambda kind, size: kind in COPIED and LONG <= size == max(SIZES[kind])),
+    Target("read", "rust-read", 1.0, "a frame of every size and check", AS_MEASURED, lambda kind, size: True, FRAMES),
+    Target("write", "rust-write", 1.0, "a frame of every size and check", AS_MEASURED, lambda kind, size: True, FRAMES),
 )
 AIM = 0.25  # for what has 0.33 as its target
 
@@ -191,6 +197,7 @@ def slower():
 BY_CODE = (("check", "decode"), ("normalise", "decode+encode"))
 OF_KIND = (("check", "decode-of-type"), ("normalise", "decode+encode-of-type"))
 READ = ("read", "decode+number-of-type")
+OF_FRAMES = (("read", "rust-read"), ("write", "rust-write"))
 SHOWN = {"check": "check", "normalise": "normalise", "read": "decode and tail"}
 
 
@@ -213,12 +220,31 @@ def readers():
         yield f"| {key[0]} | {key[1]:,} | {ns(key, READ[0])} | {ns(key, READ[1])} | {ratios} |"
 
 
+def frames():
+    yield "| Frame | Bytes | read | Rust | as measured | loop off | write | Rust | as measured | loop off |"
+    yield "|---|--:|" + "--:|" * 8
+    for key in FRAMES:
+        cells = [key[0], f"{key[1]:,}"]
+        for call, rust in OF_FRAMES:
+            cells += [ns(key, call), ns(key, rust), *(two(key, call, rust, m) for m in MEASURES)]
+        yield f"| {' | '.join(cells)} |"
+
+
+def crc_alone():
+    """nanoseconds a byte"""
+    ours, rust = (f"{best(CRC, call) / CRC[1]:.2f}" for call in ("crc", "rust-crc"))
+    ratios = ", ".join(f"{two(CRC, 'crc', 'rust-crc', m)} {shown}" for m, shown in ((AS_MEASURED, "as measured"), (LOOP_OFF, "loop off")))
+    return f"The CRC alone, over {CRC[1]:,} bytes: {ours} ns a byte, the Rust's {rust}; {ratios}. No target is set for it."
+
+
 def largest():
     yield "| Call | over | as measured | with the empty loop taken off |"
     yield "|---|---|---|---|"
     for over, pairs in (("the Rust by code byte", BY_CODE), ("the Rust of the kind", (*OF_KIND, READ))):
         for call, other in pairs:
             yield f"| {SHOWN[call]} | {over} | " + " | ".join(worst(call, other, m, KEYS) for m in MEASURES) + " |"
+    for call, other in OF_FRAMES:
+        yield f"| {call} a frame | {NAMES[other]} | " + " | ".join(worst(call, other, m, FRAMES) for m in MEASURES) + " |"
 
 
 def of_type():
@@ -244,13 +270,24 @@ def growth():
         yield f"| {k} ({lo[1]:,} to {hi[1]:,}) | " + " | ".join(f"{per(call):.3f}" for call in GROWING) + " |"
 
 
+def counted(key, pairs):
+    c = N[key]
+    return " | ".join(f"{c[a]:,} | {c[b]:,} | {c[a] / c[b]:.2f}" for a, b in pairs)
+
+
 def instructions():
     yield "| Kind | Bytes | check | Rust decode | ratio | normalise | Rust decode+encode | ratio | Rattle readers | Rust decode of the kind | ratio |"
     yield "|---|--:|" + "--:|" * 9
     for k in KINDS:
         for n in sorted({SIZES[k][0], SIZES[k][-1]}):
-            c = N[k, n]
-            yield f"| {k} | {n:,} | " + " | ".join(f"{c[a]:,} | {c[b]:,} | {c[a] / c[b]:.2f}" for a, b in (*BY_CODE, READ)) + " |"
+            yield f"| {k} | {n:,} | {counted((k, n), (*BY_CODE, READ))} |"
+
+
+def frame_instructions():
+    yield "| Frame | Bytes | read | Rust | ratio | write | Rust | ratio |"
+    yield "|---|--:|" + "--:|" * 6
+    for key in FRAMES:
+        yield f"| {key[0]} | {key[1]:,} | {counted(key, OF_FRAMES)} |"
 
 
 def cpu():
@@ -279,6 +316,11 @@ READERS = (
     "Rust's a copy. Both sides add up all fields, the tail's length and its last byte (`crates/bench_read`, `tools/bench/number.rs`), and that is in the",
     "times. No target is set; the largest ratio as measured is {largest}.",
 )
+OF_FRAME = (
+    "Bytes are those of the whole frame. `crates/frame` lends the payload, and writes into a buffer that it is lent; beside it is the plain Rust of",
+    "`tools/judge/frame.rs`, which gives a `Vec` each time. Both sources work the CRC out bit by bit. Both readers add up all fields, the payload's",
+    "length and its last byte, and that is in the times.",
+)
 
 
 def page():
@@ -292,6 +334,7 @@ def page():
         *targets(), "", "Missed:", "", *listed(missed()), "", "Above the limit on the measure on which the target is not held:", "",
         *listed(missed_on_the_other()), "", aimed()])
     yield from section("Readers", (line.format(largest=worst(*READ, AS_MEASURED, KEYS)) for line in READERS), readers())
+    yield from section("Frames", OF_FRAME, [*frames(), "", crc_alone()])
     yield from section("Largest ratios", ("At the worse of the two places.",), largest())
     yield from section("Growth with the length", (
         "Nanoseconds for each byte more, between the two longest sizes. Where check does not read the tail, its time does not grow.",), growth())
@@ -300,7 +343,8 @@ def page():
     if N:
         yield from section("Instructions", (
             "Of one call, without those of a call of nothing, by `valgrind --tool=callgrind`, on the same payloads. They do not depend on the machine's",
-            "load or on the code's place. A long copy by the C library, which both sides make, counts as one instruction a byte."), instructions())
+            "load or on the code's place. A long copy by the C library, which both sides make, counts as one instruction a byte."),
+            [*instructions(), "", *frame_instructions()])
     if BESIDE:
         yield from beside_section()
 
@@ -397,11 +441,12 @@ def chart():
 def said():
     """the last line: what was done, the largest ratios, and whether the targets are met"""
     many = min(len(RUNS[AS_MEASURED][p]) for p in PLACES)
-    top = ", ".join(f"{SHOWN[call]} {worst(call, other, AS_MEASURED, KEYS)}" for call, other in (*BY_CODE, READ))
+    top = ", ".join([*(f"{SHOWN[call]} {worst(call, other, AS_MEASURED, KEYS)}" for call, other in (*BY_CODE, READ)),
+                     *(f"{call} a frame {worst(call, other, AS_MEASURED, FRAMES)}" for call, other in OF_FRAMES)])
     failed = sum(any(target.missed(target.measure)) for target in TARGETS)
     verdict = f"{failed} of {len(TARGETS)} targets missed" if failed else f"all {len(TARGETS)} targets met"
-    return (f"bench: {len(KINDS)} kinds, {len(KEYS)} sizes, {len(CALLS)} calls, {many} run{'s' if many > 1 else ''} at each of {len(PLACES)} places; "
-            f"largest ratios as measured: {top}; {verdict}")
+    return (f"bench: {len(KINDS)} kinds, {len(KEYS)} sizes, {len(CALLS)} calls, {len(FRAMES)} frames, {many} run{'s' if many > 1 else ''} "
+            f"at each of {len(PLACES)} places; largest ratios as measured: {top}; {verdict}")
 
 
 def written(folder):
@@ -411,7 +456,7 @@ def written(folder):
 
 
 MISSED = missed()
-print("\n".join([*table(), "", *targets(), "", aimed(), "", *largest(), *(beside_section() if BESIDE else ())]))
+print("\n".join([*table(), "", *frames(), "", crc_alone(), "", *targets(), "", aimed(), "", *largest(), *(beside_section() if BESIDE else ())]))
 for folder in (HERE, *(Path(docs) for docs in sys.argv[2:] if not MISSED)):
     print(written(folder))
 for miss in MISSED:

@@ -26,6 +26,24 @@ WRONG = (
     ("a late byte", (), "LED, 14 bytes, normalise: after the last round byte 13 of the output is"),
     ("a late answer", (), "LED, 14 bytes, normalise: its "),
 )
+# the same of frames
+FRAMES = (
+    ("refuses all", (), "CRC frame, 8 bytes, read: the answer is -21, not "),
+    ("accepts all", (), "CRC frame, 0 bytes, read: the answer is 0, not -4"),
+    ("accepts a wrong check", (), "checksum frame, 64 bytes, read: the answer is 0, not -21"),
+    ("a number", (), "checksum frame, 1440 bytes, read: the answer is"),
+    ("writes all", (), "CRC frame, 64 bytes, write: the answer is 64, not -1"),
+    ("a wrong CRC", (), "CRC frame, 8 bytes, write: byte 6 of the output is"),
+    ("a wrong checksum", (), "checksum frame, 8 bytes, write: byte 7 of the output is"),
+    ("a wrong length", (), "CRC frame, 256 bytes, write: byte 2 of the output is"),
+    ("a byte short", (), "CRC frame, 8 bytes, write: the answer is 7, not 8"),
+    ("a byte", (), "checksum frame, 1440 bytes, write: byte 720 of the output is"),
+    ("a byte behind", (), "CRC frame, 1440 bytes, write: byte 0 behind the output is 0x00"),
+    ("another start", (), "CRC, 1440 bytes, crc: the answer is"),
+    ("a number", ("count",), "CRC frame, 8 bytes, read: the answer is"),
+    ("a late byte", (), "CRC frame, 8 bytes, write: after the last round byte 7 of the output is"),
+    ("a late answer", (), "checksum frame, 64 bytes, write: its "),
+)
 # what is wrong at each kind in its turn, and the call that has to be named
 EACH = (
     ("refuses all", "{name}, {least} bytes, check: the answer is -5, not 0"),
@@ -37,6 +55,8 @@ EACH = (
 # times that meet every target, by call, and changes each of which misses one target
 TIMES = {"check": 3, "decode": 20, "decode-of-type": 8, "normalise": 4, "decode+encode": 40, "decode+encode-of-type": 36, "read": 4,
          "decode+number-of-type": 9, "memcpy": 4, "nothing": 2}
+FRAME_TIMES = {"read": 12, "rust-read": 12, "write": 12, "rust-write": 12, "nothing": 2}
+CRC_TIMES = {"crc": 12, "rust-crc": 9, "nothing": 2}
 MISSES = (
     ("XRD", 1, "check", {"check": 2.5, "decode": 4}),
     ("OUT", 65544, "check", {"check": 9.6}),
@@ -45,6 +65,8 @@ MISSES = (
     ("LED", 65534, "normalise", {"normalise": 10}),
     ("FMT", 258, "normalise", {"normalise": 30}),
     ("MFG", 65546, "normalise", {"normalise": 8}),
+    ("CRC frame", 1440, "read", {"read": 12.1}),
+    ("checksum frame", 8, "write", {"write": 12.1}),
 )
 
 failed = []
@@ -81,7 +103,8 @@ def bench(library, readers):
     checks, others = ("osdp_check_command", "osdp_check_reply"), ("osdp_normalise_command", "osdp_normalise_reply")
     right = renamed(library, OUT / "right.a", dict.fromkeys(checks + others, "right_"))
     beside = renamed(library, OUT / "beside.a", {**dict.fromkeys(checks, "unused_"), **dict.fromkeys(others, "beside_")})
-    readers = renamed(readers, OUT / "readers.a", {f"bench_read_{k.name.lower()}": "right_" for k in kinds.KINDS})
+    calls = [*(f"bench_read_{k.name.lower()}" for k in kinds.KINDS), "bench_read_frame", "bench_write_frame", "bench_crc"]
+    readers = renamed(readers, OUT / "readers.a", dict.fromkeys(calls, "right_"))
     listed = " ".join(f'READER({k.name.lower()}, "{place(k)}")' for k in kinds.KINDS)
     made("cc", "-O2", "-Wall", "-Werror", f"-DREADERS={listed}", "-c", TOOLS / "wrong.c", "-o", OUT / "wrong.o")
     made(TOOLS / "build.sh", OUT / "bench", OUT / "wrong.o", readers, "--cfg", "beside", "-C", f"link-arg={right}", "-C", f"link-arg={beside}")
@@ -89,19 +112,21 @@ def bench(library, readers):
 
 
 def wrong_calls():
-    """what is wrong, at which kind, how the bench is called, and the call that has to be named"""
+    """what is wrong, at which place, how the bench is called, and the call that has to be named"""
     for what, arguments, named in WRONG:
-        yield what, kinds.KINDS[0], arguments, named
+        yield what, place(kinds.KINDS[0]), arguments, named
+    for what, arguments, named in FRAMES:
+        yield what, "frame", arguments, named
     for kind in kinds.KINDS:
         for what, named in EACH:
-            yield what, kind, ("count",), named.format(name=kind.name, least=kind.least, middle=kind.least // 2)
+            yield what, place(kind), ("count",), named.format(name=kind.name, least=kind.least, middle=kind.least // 2)
 
 
 def try_calls(binary):
     expect(run(binary).returncode == 0, "the bench over the right calls fails")
-    for what, kind, arguments, named in CALLS:
-        said = run(binary, *arguments, WRONG=what, AT=place(kind))
-        where = f"{kind.name}: {what} {' '.join(arguments)}"
+    for what, at, arguments, named in CALLS:
+        said = run(binary, *arguments, WRONG=what, AT=at)
+        where = f"{at}: {what} {' '.join(arguments)}"
         expect(said.returncode == 1 and named in said.stderr, f"{where}: not noticed, or not named: {said.stderr[:200]}")
         expect("late" in what or not said.stdout, f"{where}: noticed after something was measured")
 
@@ -111,7 +136,9 @@ def report(name, changed, change):
     folder = OUT / name
     (folder / "docs").mkdir(parents=True)
     times = {(k.name, size): TIMES for k in kinds.KINDS for size in sorted({k.least, k.most})}
-    times[changed] = {**TIMES, **change}
+    times.update({(f"{check} frame", size): FRAME_TIMES for check in ("CRC", "checksum") for size in (8, 1440)})
+    times["CRC", 1440] = CRC_TIMES
+    times[changed] = {**times[changed], **change}
     lines = [f"{kind}\t{size}\t{call}\t{ns}" for (kind, size), calls in times.items() for call, ns in calls.items()]
     for place in "12":
         (folder / f"place-{place}-run-1.tsv").write_text("\n".join(lines) + "\n")

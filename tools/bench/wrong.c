@@ -1,5 +1,7 @@
 // Stands in for the calls of the library and of the readers: does what they do, and one thing wrong, which WRONG in the environment names, for the
-// code byte that AT names, as in `command 69`. The right ones are renamed. READERS is the list of the readers, READER(NAME, CODE) each.
+// code byte that AT names, as in `command 69`, or for frames. The right ones are renamed. READERS is the list of the readers, READER(NAME, CODE)
+// each.
+#include <stdbool.h>
 #include <stdint.h>
 #include <stdio.h>
 #include <stdlib.h>
@@ -74,3 +76,48 @@ SIDE(reply)
         return right_bench_read_##name(payload, payload_len) + wrong_at("a number", code); \
     }
 READERS
+
+int32_t right_bench_read_frame(const uint8_t *f, size_t f_len);
+int32_t bench_read_frame(const uint8_t *f, size_t f_len)
+{
+    int32_t right = right_bench_read_frame(f, f_len);
+    if (wrong_at("refuses all", "frame"))
+        return -21;
+    if (wrong_at("accepts all", "frame") && right < 0)
+        return 0;
+    if (wrong_at("accepts a wrong check", "frame") && right == -21)
+        return 0;
+    return right + wrong_at("a number", "frame");
+}
+
+// A frame of n bytes that was written with one thing wrong; last is what was in the place of its last byte before.
+static int32_t framed(int32_t n, bool crc, uint8_t last, uint8_t *out)
+{
+    if (wrong_at("a wrong CRC", "frame") && crc)
+        out[n - 2] ^= 1;
+    if (wrong_at("a wrong checksum", "frame") && !crc)
+        out[n - 1] ^= 1;
+    if (wrong_at("a wrong length", "frame"))
+        out[2] ^= 1;
+    if (wrong_at("a byte short", "frame"))
+        out[--n] = last;
+    return n;
+}
+
+int32_t right_bench_write_frame(uint8_t address, bool reply, uint8_t sequence, bool crc, uint8_t code, const uint8_t *payload, size_t payload_len,
+                                uint8_t *out, size_t out_len);
+int32_t bench_write_frame(uint8_t address, bool reply, uint8_t sequence, bool crc, uint8_t code, const uint8_t *payload, size_t payload_len,
+                          uint8_t *out, size_t out_len)
+{
+    uint8_t last = out_len ? out[out_len - 1] : 0;
+    int32_t n = right_bench_write_frame(address, reply, sequence, crc, code, payload, payload_len, out, out_len);
+    if (n < 0)
+        return wrong_at("writes all", "frame") ? (int32_t)out_len : n;
+    return normalise("frame", framed(n, crc, last, out), out, out_len);
+}
+
+uint16_t right_bench_crc(uint16_t start, const uint8_t *bytes, size_t bytes_len);
+uint16_t bench_crc(uint16_t start, const uint8_t *bytes, size_t bytes_len)
+{
+    return right_bench_crc(wrong_at("another start", "frame") ? 0 : start, bytes, bytes_len);
+}

@@ -1,5 +1,6 @@
-// The readers, for tools/bench to time: a call for each kind reads a payload's record and its tail, and answers with a number that each field,
-// the tail's length and its last byte change, or with the refusal's number negated. The contracts say when it is which, and not which number it is.
+// The readers, for tools/bench to time: a call for each kind, and one for frames, reads a record and its tail, and answers with a number that each
+// field, the tail's length and its last byte change, or with the refusal's number negated. The contracts say when it is which, and not which number
+// it is. Of the writer of frames and of the CRC they say everything.
 use crate::number::answer;
 use crate::number::refused;
 use crate::number::sum;
@@ -32,6 +33,7 @@ use xrd::Xrd;
 use xrd::XrdRead;
 
 mod exact;
+mod frames;
 mod list;
 mod number;
 
