@@ -23,7 +23,7 @@ crcStart = 0x1D0F
 abbrev pub isReply : List ℕ → Bool
 isReply f = leb 128 (byteAt f 1)
 
--- control bits 0 and 1 are the sequence, bit 2 asks for a CRC, and no higher bit is accepted
+-- control bits 0 and 1 are the sequence, bit 2 asks for a CRC; no higher bit is accepted, such as bit 3, which announces a security block
 abbrev pub asksCrc : List ℕ → Bool
 asksCrc f = leb 4 (byteAt f 4)
 
