@@ -1,7 +1,6 @@
-// The code tables, and the kinds' own readers, checks and normalisers on the library: for classes 0, 5, 6 and 10 to 13 of crates/vectors.
+// The code tables, and the kinds' own readers: for classes 0, 5, 6, 10 and 13 of crates/vectors.
 pub mod list;
 mod names;
-pub mod own;
 mod read_bio;
 mod read_command;
 mod read_plain;

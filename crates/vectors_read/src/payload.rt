@@ -27,7 +27,6 @@ use vectors_case::TEXT;
 use vectors_case::XRD;
 use vectors_case::put;
 use vectors_case::wrote;
-use vectors_kind::own;
 use vectors_kind::reader;
 ghost use mathlib.Core.Path.{_≡_};
 ghost use lib.ListN.{length};
@@ -50,14 +49,14 @@ impl Call {
     fn check(self, p: &[u8]) -> Guard {
         match self {
             Call::ByCode(side, code) => osdp::check(side, code, p),
-            Call::OfKind(code) => own::check(code, p),
+            Call::OfKind(code) => vectors_own::check(code, p),
         }
     }
 
     fn normalise(self, p: &[u8], out: &mut [u8]) -> Written {
         match self {
             Call::ByCode(side, code) => osdp::normalise(side, code, p, out),
-            Call::OfKind(code) => own::normalise(code, p, out),
+            Call::OfKind(code) => vectors_own::normalise(code, p, out),
         }
     }
 }

@@ -1,4 +1,4 @@
-// The kinds' own calls, which have no limit on the payload's length.
+// The kinds' own checks and normalisers, which have no limit on the payload's length: for classes 5 and 6 of crates/vectors.
 use bio::BioMatchR;
 use bio::BioReadR;
 use biometric::BioMatch;
