@@ -13,7 +13,7 @@ help:
 	@echo "  lib-selftest      whether that last check can fail"
 	@echo "make example      builds and runs examples/c with gcc, and with clang if there is one"
 	@echo "make compare      against the original Rust: compare-vectors, then compare-calls"
-	@echo "  compare-vectors   the Rust's answers to generated cases, replayed by the program vectors"
+	@echo "  compare-vectors   the Rust's answers to generated cases, and a model's to frames, replayed by the program vectors"
 	@echo "  compare-calls     the four C calls, in one process with the Rust"
 	@echo "make mutants      whether compare-calls notices what is wrong: archives with one thing wrong each"
 	@echo "make bench        times and instructions against the original Rust, to build/bench"
