@@ -1,6 +1,6 @@
 -- osdp_TEXT (0x6B), R4.3, §6.12, Tables 21 and 22: reader, command, time, row, column, length, and so many bytes of text.
 use mathlib.Core.Bool.{_&&_}
-use Rattle.payload_util.specs.Prelude.{List, [], _∷_, ℕ, leb, length, drop, byteAt, row, require, _also_, headAndTail, atMost, inOrder}
+use Rattle.payload_util.specs.Prelude.{List, [], _∷_, ℕ, zero, suc, _/_, _%_, leb, length, drop, byteAt, row, require, _also_, headAndTail, atMost, inOrder}
 use Rattle.payload_util.specs.Prelude.{named, Outcome, gives, refuses, guardOf, valueOr, nothing, Form, tailed}
 use Rattle.payload_util.specs.declared.Guard.{Guard}
 use Rattle.text.specs.declared.{Text.Text, TextRead.TextRead, TextRead.the-variants.Read, TextRead.the-variants.Refused}
@@ -36,6 +36,11 @@ printableAt s i = require (leb 0x20 (byteAt s i) && leb (byteAt s i) 0x7E) (row 
 -- each byte, in order
 unfoldable pub printable : List ℕ → Guard
 printable s = inOrder (printableAt s) 0 (length s)
+
+-- the n low bytes of a number, lowest first
+unfoldable pub bytesOf : ℕ → ℕ → List ℕ
+bytesOf zero w = []
+bytesOf (suc n) w = w % 256 ∷ bytesOf n (w / 256)
 
 -- a reader checks the least length, the length field, the text and then the command
 unfoldable pub textShape : List ℕ → Guard

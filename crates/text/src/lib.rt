@@ -10,8 +10,9 @@ use payload_util::require_at_most;
 use payload_util::require_head_and_tail;
 use payload_util::tail_from;
 use payload_util::tail_where;
-ghost use Rattle.payload_util.specs.Prelude.{_≡_, _≤_, length, check, read, tail, write, normalise};
-ghost use Rattle.text.specs.Text.{textCommandByte, textCommandOutcome, readTextCommand, textOutcome, printable, textShape, textWith, textKind};
+use payload_util::u32_at;
+ghost use Rattle.payload_util.specs.Prelude.{_≡_, _≤_, length, take, row, require, check, read, tail, write, normalise};
+ghost use Rattle.text.specs.Text.{textCode, textCommandByte, textCommandOutcome, readTextCommand, textOutcome, printable, bytesOf, textShape, textWith, textKind};
 
 // Table 21.
 pub enum TextCommand {
@@ -78,20 +79,59 @@ impl Text {
     // Including the length field.
     pub const WIRE_LEN: usize = 6;
 
-    // Row 8 if a byte of the text is outside 0x20 to 0x7E. The loop goes on after such a byte, so the compiler can take many at a time.
+    // Row 8 if a byte of the text is outside 0x20 to 0x7E.
     fn validate_ascii(s: &[u8]) -> Guard
         ensures { λ r. ⌜ r ≡ printable (now (s .entry)) ⌝ }
     {
-        let mut shown = true;
+        require(Self::printable_text(s), 8, Self::CODE, 0, 0)
+    }
+
+    // Whether every byte lies in 0x20 to 0x7E: eight as one word while there are eight, and the rest singly.
+    fn printable_text(s: &[u8]) -> bool
+        ensures { λ r. ⌜ require r (row 8 textCode 0 0) ≡ printable (now (s .entry)) ⌝ }
+    {
+        let words = s.len() / 8;
+        let mut k = 0;
+        while k < words {
+            if !Self::printable_word(Self::word(&s[8 * k..8 * k + 8])) {
+                return false;
+            }
+            k += 1;
+        }
+        Self::printable_singly(&s[8 * words..])
+    }
+
+    fn printable_singly(s: &[u8]) -> bool
+        ensures { λ r. ⌜ require r (row 8 textCode 0 0) ≡ printable (now (s .entry)) ⌝ }
+    {
         let mut i = 0;
         while i < s.len() {
             let b = s[i];
             if b < 0x20 || 0x7E < b {
-                shown = false;
+                return false;
             }
             i += 1;
         }
-        require(shown, 8, Self::CODE, 0, 0)
+        true
+    }
+
+    // Whether all eight bytes of a word do. No byte of low is above 0x7F, so neither the sum nor the difference carries from a byte into the
+    // next one. A byte's top bit is set in over if low has 0x7F there, and in under if low has less than 0x20.
+    fn printable_word(w: u64) -> bool
+        ensures { λ r. ⌜ require r (row 8 textCode 0 0) ≡ printable (bytesOf 8 w) ⌝ }
+    {
+        let low = w & 0x7F7F_7F7F_7F7F_7F7F;
+        let over = low + 0x0101_0101_0101_0101;
+        let under = 0x9F9F_9F9F_9F9F_9F9F - low;
+        (w | over | under) & 0x8080_8080_8080_8080 == 0
+    }
+
+    // The first eight bytes as a number, low byte first.
+    fn word(s: &[u8]) -> u64
+        requires { ⌜ 8 ≤ length (now s) ⌝ }
+        ensures { λ r. ⌜ bytesOf 8 r ≡ take 8 (now (s .entry)) ⌝ }
+    {
+        (u32_at(s, 0) as u64) + 0x1_0000_0000 * (u32_at(s, 4) as u64)
     }
 
     // The checks that come before the command.
