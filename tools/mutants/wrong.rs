@@ -59,7 +59,7 @@ impl Call<'_> {
     }
 
     /// The reader sees other bytes; those that it keeps are written as they are.
-    fn see(&mut self, f: fn(usize, u8) -> u8) {
+    fn see(&mut self, f: impl Fn(usize, u8) -> u8) {
         let seen: Vec<u8> = self.front().iter().enumerate().map(|(at, &b)| f(at, b)).collect();
         self.answer = normalised(self.side, self.code, &seen).map_err(|e| e.row);
         if let Ok(form) = &mut self.answer {
@@ -311,6 +311,11 @@ fn values() -> Vec<Mutant> {
             Answer(|c| if c.is_row(8) && c.p.ends_with(b"\0") { c.see_last(b'A') })),
         of("TEXT", "byte 1F is taken in the last eight of a long text",
             Answer(|c| if c.n() == 261 { c.see(|at, b| if at > 252 && b == 0x1F { b'A' } else { b }) })),
+        of("TEXT", "the eighth byte of a word is not looked at", Answer(|c| c.see(|at, b| if at > 5 && at % 8 == 5 { b'A' } else { b }))),
+        of("TEXT", "the last eight bytes are not looked at if the text's length is a multiple of 8",
+            Answer(|c| if let (6, n @ 14..) = (c.n() % 8, c.n()) { c.see(|at, b| if at >= n - 8 { b'A' } else { b }) })),
+        of("TEXT", "byte 1F is taken behind the last whole word",
+            Answer(|c| { let n = c.n(); c.see(|at, b| if at > 5 && at >= n - (n - 6) % 8 && b == 0x1F { b'A' } else { b }) })),
         of("TEXT", "display row FE is written as FF", Answer(|c| c.give(|at, b| if at == 3 && b == 0xFE { 0xFF } else { b }))),
         of("LED", "the timer's high byte A7 is lost in record 3", Answer(|c| c.give(|at, b| if at == 3 * 14 + 8 && b == 0xA7 { 0 } else { b }))),
         of("LED", "colour FF is kept in the last place",

@@ -377,6 +377,24 @@ def places(scale):
                 yield f"write-at {kind.code:02X} {at} {room} {spell(good(kind, 1))}"
 
 
+NOT_PRINTABLE = (0x1F, 0x7F, 0x80, 0xFF, 0x00)
+BUT_FOR_TOP_BIT = (0xA0, 0xFE)  # printable without it
+
+
+def texts(scale):
+    """a text with one byte that is not printable, at each place; in a large run every byte at every place of texts up to 24 bytes
+
+    The other bytes are all spaces or all tildes, the two ends of what is printable. No text is drawn by chance.
+    """
+    wanted = [(n, NOT_PRINTABLE + BUT_FOR_TOP_BIT) for n in range(41)] + [(n, NOT_PRINTABLE) for n in range(247, 256)]
+    if scale >= EACH:
+        wanted += [(n, range(256)) for n in range(1, 25)]
+    for n, others in wanted:
+        s = bytes([(0x20, 0x7E)[n % 2]]) * n
+        for t in (s, *(s[:at] + bytes([b]) + s[at + 1:] for at in range(n) for b in others)):
+            yield case(TEXT, bytes([0, 1, 0, 1, 1, n]) + t)
+
+
 def cases(scale):
     yield from examples(of_frames=False)
     yield from tables()
@@ -397,6 +415,7 @@ def cases(scale):
     yield from places(scale)
     yield from examples(of_frames=True)
     yield from (case for case, _ in frames())
+    yield from texts(scale)
 
 
 for line in dict.fromkeys(cases(int(sys.argv[1]) if len(sys.argv) > 1 else 1)):
