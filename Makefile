@@ -1,6 +1,7 @@
 # make alone prints what there is. Everything that is made goes to build/ and target/, which git ignores.
 LIB := target/staticlib/libosdp.a
 READERS := target/staticlib/libbench_read.a
+TEXTS := target/printable/target/staticlib/libtext.a
 # quick ones first
 CHECKS := proof-map lib-selftest inputs names lib example compare mutants bench-selftest bench
 
@@ -71,6 +72,10 @@ $(LIB) $(READERS): target/staticlib/lib%.a: crates.txt $(shell find crates -name
 	rt staticlib $*
 	@touch $@
 
+$(TEXTS): crates.txt tools/bench/printable.sh $(shell find crates/payload_util crates/text -name '*.rt' -o -name '*.antt')
+	tools/bench/printable.sh
+	@touch $@
+
 example: $(LIB)
 	$(MAKE) --no-print-directory -C examples/c
 
@@ -90,13 +95,13 @@ compare-calls: oracle $(LIB)
 mutants: oracle
 	tools/mutants/run.sh "$$RUST"
 
-bench: oracle $(LIB) $(READERS)
+bench: oracle $(LIB) $(READERS) $(TEXTS)
 	tools/bench/run.sh $${BESIDE:+--beside "$$BESIDE"} "$$RUST"
 
-bench-selftest: oracle $(LIB) $(READERS)
+bench-selftest: oracle $(LIB) $(READERS) $(TEXTS)
 	tools/bench/run.sh --selftest "$$RUST"
 
-performance: oracle $(LIB) $(READERS)
+performance: oracle $(LIB) $(READERS) $(TEXTS)
 	@[ -z "$$BESIDE" ] || { echo "make performance takes no BESIDE: the page is of this build" >&2; exit 2; }
 	tools/bench/run.sh --docs "$$RUST"
 

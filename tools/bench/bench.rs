@@ -1,4 +1,5 @@
-//! Times of the C calls, of the readers and of the original Rust on the same payloads, and of frames beside a plain Rust: bench [count]
+//! Times of the C calls, of the readers and of the original Rust on the same payloads, of frames beside a plain Rust, and of the check of a text's
+//! bytes: bench [count]
 //! A line for each kind, size and call: KIND SIZE CALL NANOSECONDS, the median of interleaved rounds. With `count`, each call is made once in
 //! `measured`, for callgrind, and the lines have no time. Built with cfg `beside`, a second library's calls are measured too.
 //! Before anything is measured, each call is made at every place that it is measured at, and its answer and the output are held to what the
@@ -6,6 +7,7 @@
 mod calls;
 mod frames;
 mod number;
+mod printable;
 
 use calls::{calls, Call, Run};
 use judge::chance::Chance;
@@ -31,7 +33,7 @@ const BEHIND: usize = 64;
 /// What they hold, and the output's bytes where a call has to write none.
 const UNTOUCHED: u8 = 0xA5;
 
-/// A payload or a frame, and what is called on it.
+/// A payload, a frame or a text, and what is called on it.
 struct Case {
     name: &'static str,
     code: u8,
@@ -192,7 +194,7 @@ fn count(case: &Case, memory: &mut Memory) -> Vec<String> {
     faults
 }
 
-/// Payloads that normalising leaves as they are, and that the original's writer takes; and frames that are accepted.
+/// Payloads that normalising leaves as they are, and that the original's writer takes; and frames and texts that are accepted.
 fn timed() -> Vec<Case> {
     let mut r = Chance::new(1);
     let mut case = |k: &'static Kind, n| {
@@ -200,12 +202,12 @@ fn timed() -> Vec<Case> {
         Case::new(k, k.agreed(n, &mut r))
     };
     let kinds = KINDS.iter().flat_map(|k| k.timed.iter().map(move |&n| (k, n)));
-    kinds.map(|(k, n)| case(k, n)).chain(frames::timed()).collect()
+    kinds.map(|(k, n)| case(k, n)).chain(frames::timed()).chain(printable::timed()).collect()
 }
 
-/// Every kind refuses the empty payload, so that a call that accepts everything is noticed; frames are refused in several ways.
+/// Every kind refuses the empty payload, so that a call that accepts everything is noticed; frames and texts are refused in several ways.
 fn refused() -> Vec<Case> {
-    KINDS.iter().map(|k| Case::new(k, Vec::new())).chain(frames::refused()).collect()
+    KINDS.iter().map(|k| Case::new(k, Vec::new())).chain(frames::refused()).chain(printable::refused()).collect()
 }
 
 fn main() {

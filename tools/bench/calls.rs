@@ -138,6 +138,11 @@ pub struct Call {
     pub written: Vec<u8>,
 }
 
+/// A call that leaves the output as it is.
+pub fn reads(name: &'static str, run: Run, answer: i32) -> Call {
+    Call { name, run, answer, written: Vec::new() }
+}
+
 /// What the original says of a payload, as answers of the calls: of check, of normalise and of the Rust's own, and the bytes of the second.
 struct Right {
     check: i32,
@@ -162,7 +167,6 @@ pub fn calls(k: &Kind, p: &[u8]) -> Vec<Call> {
         Side::Command => [decode_command, again_command],
         Side::Reply => [decode_reply, again_reply],
     };
-    let reads = |name, run, answer| Call { name, run, answer, written: Vec::new() };
     let writes = |name, run, answer, written: &[u8]| Call { name, run, answer, written: written.to_vec() };
     vec![
         reads("check", check, right.check),

@@ -1,5 +1,5 @@
 //! The calls on frames that are measured: `crates/frame` beside the plain Rust of tools/judge, which gives a `Vec`; and the CRC alone.
-use crate::calls::{nothing, Call, Run};
+use crate::calls::{nothing, reads, Call, Run};
 use crate::number::frame_number;
 use crate::Case;
 use judge::chance::Chance;
@@ -79,10 +79,6 @@ fn written(has_crc: bool, code: u8, f: &[u8]) -> (i32, Vec<u8>) {
         Ok(bytes) => (bytes.len() as i32, bytes),
         Err(e) => (-i32::from(e.row), Vec::new()),
     }
-}
-
-fn reads(name: &'static str, run: Run, answer: i32) -> Call {
-    Call { name, run, answer, written: Vec::new() }
 }
 
 fn case(has_crc: bool, code: u8, f: Vec<u8>) -> Case {

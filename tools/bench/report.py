@@ -7,6 +7,7 @@ import subprocess
 import sys
 from collections import defaultdict
 from math import log10
+from operator import sub, truediv
 from pathlib import Path
 from statistics import median
 
@@ -65,6 +66,8 @@ KINDS = list(dict.fromkeys(k for k, _ in KEYS))
 SIZES = {k: [n for kind, n in KEYS if kind == k] for k in KINDS}
 FRAMES = [key for key in MEASURED if key[0].endswith(" frame")]
 CRC = next(key for key in MEASURED if key[0] == "CRC")
+TEXTS = [key for key in MEASURED if key[0] == "printable text"]
+STOPPED = next(key for key in MEASURED if key[0] == "refused text")
 CALLS = list(RUNS[AS_MEASURED]["1"][0][KEYS[0]])
 BESIDE = "check-beside" in CALLS
 
@@ -77,13 +80,13 @@ def best(key, call):
     return min(took(key, call, p) for p in PLACES)
 
 
-def both(key, call, rust, measure):
-    """the ratio at each place: the median of the runs' ratios, since the calls of a run were interleaved"""
-    return [median(run[key][call] / run[key][rust] for run in RUNS[measure][p]) for p in PLACES]
+def both(key, call, other, measure, how=truediv):
+    """the ratio, or with sub the difference, at each place: the median of the runs', since the calls of a run were interleaved"""
+    return [median(how(run[key][call], run[key][other]) for run in RUNS[measure][p]) for p in PLACES]
 
 
-def two(key, call, rust, measure):
-    return " · ".join(f"{r:.2f}" for r in both(key, call, rust, measure))
+def two(key, call, other, measure, how=truediv):
+    return " · ".join(f"{r:.2f}" for r in both(key, call, other, measure, how))
 
 
 def ns(key, call):
@@ -92,26 +95,29 @@ def ns(key, call):
 
 
 def sized(key):
-    return f"{key[0]}, {key[1]:,} byte{'s' if key[1] > 1 else ''}"
+    return f"{key[0]}, {key[1]:,} byte{'' if key[1] == 1 else 's'}"
 
 
-def worst(call, other, measure, keys):
-    """the largest ratio, at the worse of the two places, and where it is"""
-    ratio, key = max((max(both(key, call, other, measure)), key) for key in keys)
-    return f"{ratio:.2f} ({sized(key)})"
+def worst(call, other, measure, keys, how=truediv):
+    """the largest ratio or difference, at the worse of the two places, and where it is"""
+    largest, key = max((max(both(key, call, other, measure, how)), key) for key in keys)
+    return f"{largest:.2f} ({sized(key)})"
 
 
 # The targets
 
 NAMES = {"decode": "the Rust's decode", "decode+encode": "the Rust's decode and encode", "memcpy": "memcpy",
-         "rust-read": "the Rust's frame reader", "rust-write": "the Rust's frame writer"}
+         "rust-read": "the Rust's frame reader", "rust-write": "the Rust's frame writer", "rust-text": "the Rust's check of a text",
+         "singly": "the byte loop"}
+HOW = {truediv: "of", sub: "ns more than"}
 
 
 class Target:
-    """A call takes at most so much of another's time, at some sizes; the measure is the one on which this is held."""
+    """A call takes at most so much of another's time, or with sub so many ns more, at some sizes; the measure is the one on which this is held."""
 
-    def __init__(self, call, other, limit, where, measure, at, among=KEYS):
-        self.call, self.other, self.limit, self.where, self.measure = call, other, limit, where, measure
+    def __init__(self, call, other, limit, where, measure, at, among=KEYS, how=truediv):
+        self.call, self.other, self.limit, self.where, self.measure, self.how = call, other, limit, where, measure, how
+        self.than = f"{HOW[how]} {NAMES[other]}"
         self.keys = [key for key in among if at(*key)]
         if not self.keys:
             sys.exit(f"report.py: nothing was measured for the target of {call}, {where}")
@@ -119,14 +125,14 @@ class Target:
     def missed(self, measure):
         """where it is missed at either place, with the better of the two and the worse"""
         for key in self.keys:
-            r = both(key, self.call, self.other, measure)
+            r = both(key, self.call, self.other, measure, self.how)
             if max(r) > self.limit:
-                yield f"{sized(key)}, {self.call}: {min(r):.3f} to {max(r):.3f} of {NAMES[self.other]} {measure}, above {self.limit}"
+                yield f"{sized(key)}, {self.call}: {min(r):.3f} to {max(r):.3f} {self.than} {measure}, above {self.limit}"
 
     def row(self):
-        largest = " | ".join(worst(self.call, self.other, m, self.keys) for m in MEASURES)
+        largest = " | ".join(worst(self.call, self.other, m, self.keys, self.how) for m in MEASURES)
         met = "no" if any(self.missed(self.measure)) else "yes"
-        return f"| {self.call}, {self.where} | {self.limit} of {NAMES[self.other]} | {self.measure} | {met} | {largest} |"
+        return f"| {self.call}, {self.where} | {self.limit} {self.than} | {self.measure} | {met} | {largest} |"
 
 
 def led_long(kind, size):
@@ -144,12 +150,14 @@ TARGETS = (
            lambda kind, size: kind in COPIED and LONG <= size == max(SIZES[kind])),
     Target("read", "rust-read", 1.0, "a frame of every size and check", AS_MEASURED, lambda kind, size: True, FRAMES),
     Target("write", "rust-write", 1.0, "a frame of every size and check", AS_MEASURED, lambda kind, size: True, FRAMES),
+    Target("words", "rust-text", 0.45, "a text from 16 bytes on", LOOP_OFF, lambda kind, size: size >= 16, TEXTS),
+    Target("words", "singly", 1.0, "a text of every length", AS_MEASURED, lambda kind, size: True, TEXTS, sub),
 )
 AIM = 0.25  # for what has 0.33 as its target
 
 
 def targets():
-    yield "| Target | At most | Measure | Met | Largest ratio as measured | Largest with the empty loop taken off |"
+    yield "| Target | At most | Measure | Met | Largest as measured | Largest with the empty loop taken off |"
     yield "|---|---|---|---|---|---|"
     for target in TARGETS:
         yield target.row()
@@ -198,6 +206,8 @@ BY_CODE = (("check", "decode"), ("normalise", "decode+encode"))
 OF_KIND = (("check", "decode-of-type"), ("normalise", "decode+encode-of-type"))
 READ = ("read", "decode+number-of-type")
 OF_FRAMES = (("read", "rust-read"), ("write", "rust-write"))
+OF_TEXTS = ("words", "rust-text")
+TEXT_CALLS = (*OF_TEXTS, "reads-on", "singly")
 SHOWN = {"check": "check", "normalise": "normalise", "read": "decode and tail"}
 
 
@@ -237,6 +247,31 @@ def crc_alone():
     return f"The CRC alone, over {CRC[1]:,} bytes: {ours} ns a byte, the Rust's {rust}; {ratios}. No target is set for it."
 
 
+def texts():
+    yield ("| Bytes | words | Rust | loop before | byte loop | words / Rust, as measured | loop off | words / loop before, as measured | loop off "
+           "| words - byte loop, ns |")
+    yield "|--:|" + "--:|" * 9
+    for key in TEXTS:
+        times = [ns(key, call) for call in TEXT_CALLS]
+        ratios = [two(key, "words", other, m) for other in ("rust-text", "reads-on") for m in MEASURES]
+        yield f"| {key[1]} | {' | '.join(times + ratios)} | {two(key, 'words', 'singly', AS_MEASURED, sub)} |"
+
+
+def gained():
+    """where the words take less time than the loop before, and where more"""
+    ratios = {key[1]: both(key, "words", "reads-on", AS_MEASURED) for key in TEXTS}
+    less = ", ".join(str(n) for n, r in ratios.items() if max(r) < 1)
+    more = ", ".join(str(n) for n, r in ratios.items() if min(r) > 1)
+    return f"At both places, as measured, words take less time than the loop before at the lengths {less or '(none)'}, and more at {more or '(none)'}."
+
+
+def stopped():
+    """what a text takes that is refused at its first byte"""
+    names = ("words", "the Rust", "the loop before", "the byte loop")
+    times = ", ".join(f"{name} {ns(STOPPED, call)} ns" for name, call in zip(names, TEXT_CALLS))
+    return f"A text of {STOPPED[1]} bytes that is refused at its first: {times}."
+
+
 def largest():
     yield "| Call | over | as measured | with the empty loop taken off |"
     yield "|---|---|---|---|"
@@ -245,6 +280,7 @@ def largest():
             yield f"| {SHOWN[call]} | {over} | " + " | ".join(worst(call, other, m, KEYS) for m in MEASURES) + " |"
     for call, other in OF_FRAMES:
         yield f"| {call} a frame | {NAMES[other]} | " + " | ".join(worst(call, other, m, FRAMES) for m in MEASURES) + " |"
+    yield f"| words of a text | {NAMES[OF_TEXTS[1]]} | " + " | ".join(worst(*OF_TEXTS, m, TEXTS) for m in MEASURES) + " |"
 
 
 def of_type():
@@ -290,6 +326,13 @@ def frame_instructions():
         yield f"| {key[0]} | {key[1]:,} | {counted(key, OF_FRAMES)} |"
 
 
+def text_instructions():
+    yield "| Text, bytes | words | Rust | loop before | byte loop |"
+    yield "|--:|--:|--:|--:|--:|"
+    for key in TEXTS:
+        yield f"| {key[1]} | " + " | ".join(f"{N[key][call]:,}" for call in TEXT_CALLS) + " |"
+
+
 def cpu():
     try:
         line = next(l for l in Path("/proc/cpuinfo").read_text().splitlines() if l.startswith("model name"))
@@ -321,6 +364,12 @@ OF_FRAME = (
     "`tools/judge/frame.rs`, which gives a `Vec` each time. Both sources work the CRC out bit by bit. Both readers add up all fields, the payload's",
     "length and its last byte, and that is in the times.",
 )
+OF_TEXT = (
+    "Whether every byte of a text lies in 0x20 to 0x7E. `crates/text` takes eight bytes as one word and what is left singly, and stops at the first",
+    "word or byte that it refuses: words. Beside it are the Rust's `validate_ascii`, which stops too; the loop that `crates/text` had before, which",
+    "read on to the end, so that the compiler could take many bytes at a time; and a plain loop over bytes that stops. The texts of the table are",
+    "accepted, so all of each is read.",
+)
 
 
 def page():
@@ -330,11 +379,13 @@ def page():
     yield from ("", "![Ratios to the Rust, and growth with the length](performance.svg)", "")
     yield from (line.format(nothing=median(best(key, "nothing") for key in KEYS)) for line in HEAD)
     yield from ("", *table())
-    yield from section("Targets", ("Each is held on the measure that is named, and missed where the ratio of the worse place is above the limit.",), [
+    yield from section("Targets", (
+        "Each is held on the measure that is named, and missed where the ratio, or the difference, of the worse place is above the limit.",), [
         *targets(), "", "Missed:", "", *listed(missed()), "", "Above the limit on the measure on which the target is not held:", "",
         *listed(missed_on_the_other()), "", aimed()])
     yield from section("Readers", (line.format(largest=worst(*READ, AS_MEASURED, KEYS)) for line in READERS), readers())
     yield from section("Frames", OF_FRAME, [*frames(), "", crc_alone()])
+    yield from section("Printable text", OF_TEXT, [*texts(), "", gained(), stopped()])
     yield from section("Largest ratios", ("At the worse of the two places.",), largest())
     yield from section("Growth with the length", (
         "Nanoseconds for each byte more, between the two longest sizes. Where check does not read the tail, its time does not grow.",), growth())
@@ -344,7 +395,7 @@ def page():
         yield from section("Instructions", (
             "Of one call, without those of a call of nothing, by `valgrind --tool=callgrind`, on the same payloads. They do not depend on the machine's",
             "load or on the code's place. A long copy by the C library, which both sides make, counts as one instruction a byte."),
-            [*instructions(), "", *frame_instructions()])
+            [*instructions(), "", *frame_instructions(), "", *text_instructions()])
     if BESIDE:
         yield from beside_section()
 
@@ -442,11 +493,12 @@ def said():
     """the last line: what was done, the largest ratios, and whether the targets are met"""
     many = min(len(RUNS[AS_MEASURED][p]) for p in PLACES)
     top = ", ".join([*(f"{SHOWN[call]} {worst(call, other, AS_MEASURED, KEYS)}" for call, other in (*BY_CODE, READ)),
-                     *(f"{call} a frame {worst(call, other, AS_MEASURED, FRAMES)}" for call, other in OF_FRAMES)])
+                     *(f"{call} a frame {worst(call, other, AS_MEASURED, FRAMES)}" for call, other in OF_FRAMES),
+                     f"words of a text {worst(*OF_TEXTS, AS_MEASURED, TEXTS)}"])
     failed = sum(any(target.missed(target.measure)) for target in TARGETS)
     verdict = f"{failed} of {len(TARGETS)} targets missed" if failed else f"all {len(TARGETS)} targets met"
-    return (f"bench: {len(KINDS)} kinds, {len(KEYS)} sizes, {len(CALLS)} calls, {len(FRAMES)} frames, {many} run{'s' if many > 1 else ''} "
-            f"at each of {len(PLACES)} places; largest ratios as measured: {top}; {verdict}")
+    return (f"bench: {len(KINDS)} kinds, {len(KEYS)} sizes, {len(CALLS)} calls, {len(FRAMES)} frames, {len(TEXTS)} texts, "
+            f"{many} run{'s' if many > 1 else ''} at each of {len(PLACES)} places; largest ratios as measured: {top}; {verdict}")
 
 
 def written(folder):
@@ -456,7 +508,8 @@ def written(folder):
 
 
 MISSED = missed()
-print("\n".join([*table(), "", *frames(), "", crc_alone(), "", *targets(), "", aimed(), "", *largest(), *(beside_section() if BESIDE else ())]))
+print("\n".join([*table(), "", *frames(), "", crc_alone(), "", *texts(), "", gained(), stopped(), "", *targets(), "", aimed(), "", *largest(),
+                 *(beside_section() if BESIDE else ())]))
 for folder in (HERE, *(Path(docs) for docs in sys.argv[2:] if not MISSED)):
     print(written(folder))
 for miss in MISSED:

@@ -1,5 +1,6 @@
 #!/usr/bin/env bash
-# Measures the C calls and the readers against the original Rust: run.sh [--docs] [--beside ARCHIVE] [SOURCES] | run.sh --selftest [SOURCES]
+# Measures the C calls, the readers and the check of a text's bytes against the original Rust, and frames against a plain one:
+#     run.sh [--docs] [--beside ARCHIVE] [SOURCES] | run.sh --selftest [SOURCES]
 # SOURCES is as for tools/oracle/build.sh, which builds the original. Writes build/bench/PERFORMANCE.md and performance.svg, and with --docs
 # copies both to docs/ if every target is met. With --beside another build of the library is measured in the same rounds. RUNS=NUMBER sets the
 # number of runs (15). Exits with 1 if an answer or a byte is wrong, and then measures nothing, or if a target is missed. With --selftest tries
@@ -10,6 +11,7 @@ root=$(cd "$here/../.." && pwd -P)
 [[ ${ALONE-} == "$root"/* ]] || exec "$root/tools/alone.py" "$0" "$@"
 lib=$root/target/staticlib/libosdp.a
 readers=$root/target/staticlib/libbench_read.a
+texts=$root/target/printable/target/staticlib/libtext.a
 out=$root/build/bench
 docs=
 beside=
@@ -23,11 +25,11 @@ while true; do
     esac
 done
 BESIDE=$beside "$root/tools/arguments.py" RUNS BESIDE
-for archive in "$lib" "$readers"; do
+for archive in "$lib" "$readers" "$texts"; do
     [ -f "$archive" ] || { echo "$0: $archive is not there: make bench builds it" >&2; exit 1; }
 done
 "$root/tools/oracle/build.sh" ${1:+"$1"}
-[ -z "$selftest" ] || exec "$here/selftest.py" "$lib" "$readers"
+[ -z "$selftest" ] || exec "$here/selftest.py" "$lib" "$readers" "$texts"
 rm -rf "$out"
 mkdir -p "$out/counts"
 
@@ -40,8 +42,8 @@ if [ -n "$beside" ]; then
 fi
 
 # Two binaries, which differ only in the place of their code.
-"$here/build.sh" "$out/bench-1" "$lib" "$readers" "${other[@]}"
-"$here/build.sh" "$out/bench-2" "$lib" "$readers" "${other[@]}" --cfg shifted
+"$here/build.sh" "$out/bench-1" "$lib" "$readers" "$texts" "${other[@]}"
+"$here/build.sh" "$out/bench-2" "$lib" "$readers" "$texts" "${other[@]}" --cfg shifted
 for run in $(seq "${RUNS:-15}"); do
     for place in 1 2; do
         "$out/bench-$place" >"$out/place-$place-run-$run.tsv"

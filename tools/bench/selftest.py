@@ -1,5 +1,5 @@
 #!/usr/bin/env python3
-"""Whether the bench notices what is wrong: selftest.py LIBRARY READERS, the two archives; run.sh --selftest calls it
+"""Whether the bench notices what is wrong: selftest.py LIBRARY READERS TEXTS, the three archives; run.sh --selftest calls it
 
 A bench over wrong.c has to name the call and to exit with 1, before it prints a time if the call is wrong from the start. A report on times
 that miss a target has to name it and to exit with 1. Everything goes to build/bench-selftest."""
@@ -44,6 +44,22 @@ FRAMES = (
     ("a late byte", (), "CRC frame, 8 bytes, write: after the last round byte 7 of the output is"),
     ("a late answer", (), "checksum frame, 64 bytes, write: its "),
 )
+# the same of the check of a text, by words and singly
+TEXTS = (
+    ("words", "refuses all", (), "printable text, 0 bytes, words: the answer is 0, not 1"),
+    ("words", "accepts all", (), "printable text, 1 bytes, words: the answer is 1, not 0"),
+    ("words", "a number", (), "printable text, 255 bytes, words: the answer is 2, not 1"),
+    ("words", "not the first byte", (), "printable text, 8 bytes, words: the answer is 1, not 0"),
+    ("words", "not the last byte", (), "printable text, 255 bytes, words: the answer is 1, not 0"),
+    ("words", "only whole words", (), "printable text, 15 bytes, words: the answer is 1, not 0"),
+    ("words", "only the first word", (), "printable text, 16 bytes, words: the answer is 1, not 0"),
+    ("words", "accepts 0x7F", (), "printable text, 64 bytes, words: the answer is 1, not 0"),
+    ("words", "accepts all", ("count",), "printable text, 1 bytes, words: the answer is 1, not 0"),
+    ("words", "a late answer", (), "printable text, 0 bytes, words: its "),
+    ("singly", "accepts all", (), "printable text, 1 bytes, singly: the answer is 1, not 0"),
+    ("singly", "not the last byte", (), "printable text, 7 bytes, singly: the answer is 1, not 0"),
+    ("singly", "a late answer", (), "printable text, 0 bytes, singly: its "),
+)
 # what is wrong at each kind in its turn, and the call that has to be named
 EACH = (
     ("refuses all", "{name}, {least} bytes, check: the answer is -5, not 0"),
@@ -57,6 +73,8 @@ TIMES = {"check": 3, "decode": 20, "decode-of-type": 8, "normalise": 4, "decode+
          "decode+number-of-type": 9, "memcpy": 4, "nothing": 2}
 FRAME_TIMES = {"read": 12, "rust-read": 12, "write": 12, "rust-write": 12, "nothing": 2}
 CRC_TIMES = {"crc": 12, "rust-crc": 9, "nothing": 2}
+TEXT_TIMES = {15: {"words": 4, "rust-text": 5, "reads-on": 9, "singly": 3, "nothing": 2},
+              16: {"words": 4, "rust-text": 9, "reads-on": 3, "singly": 8, "nothing": 2}}
 MISSES = (
     ("XRD", 1, "check", {"check": 2.5, "decode": 4}),
     ("OUT", 65544, "check", {"check": 9.6}),
@@ -67,6 +85,8 @@ MISSES = (
     ("MFG", 65546, "normalise", {"normalise": 8}),
     ("CRC frame", 1440, "read", {"read": 12.1}),
     ("checksum frame", 8, "write", {"write": 12.1}),
+    ("printable text", 16, "words", {"words": 5.2}),
+    ("printable text", 15, "words", {"words": 4.1}),
 )
 
 failed = []
@@ -98,16 +118,17 @@ def place(kind):
     return f"{kind.side} {kind.code:02X}"
 
 
-def bench(library, readers):
-    """over wrong.c, whose calls are neither in the library, nor in the readers, nor in the other build"""
+def bench(library, readers, texts):
+    """over wrong.c, whose calls are in none of the archives: neither the library's, nor the readers', nor those of texts, nor the other build's"""
     checks, others = ("osdp_check_command", "osdp_check_reply"), ("osdp_normalise_command", "osdp_normalise_reply")
     right = renamed(library, OUT / "right.a", dict.fromkeys(checks + others, "right_"))
     beside = renamed(library, OUT / "beside.a", {**dict.fromkeys(checks, "unused_"), **dict.fromkeys(others, "beside_")})
     calls = [*(f"bench_read_{k.name.lower()}" for k in kinds.KINDS), "bench_read_frame", "bench_write_frame", "bench_crc"]
     readers = renamed(readers, OUT / "readers.a", dict.fromkeys(calls, "right_"))
+    texts = renamed(texts, OUT / "texts.a", dict.fromkeys(("bench_printable_text", "bench_printable_singly"), "right_"))
     listed = " ".join(f'READER({k.name.lower()}, "{place(k)}")' for k in kinds.KINDS)
     made("cc", "-O2", "-Wall", "-Werror", f"-DREADERS={listed}", "-c", TOOLS / "wrong.c", "-o", OUT / "wrong.o")
-    made(TOOLS / "build.sh", OUT / "bench", OUT / "wrong.o", readers, "--cfg", "beside", "-C", f"link-arg={right}", "-C", f"link-arg={beside}")
+    made(TOOLS / "build.sh", OUT / "bench", OUT / "wrong.o", readers, texts, "--cfg", "beside", "-C", f"link-arg={right}", "-C", f"link-arg={beside}")
     return OUT / "bench"
 
 
@@ -117,6 +138,8 @@ def wrong_calls():
         yield what, place(kinds.KINDS[0]), arguments, named
     for what, arguments, named in FRAMES:
         yield what, "frame", arguments, named
+    for at, what, arguments, named in TEXTS:
+        yield what, at, arguments, named
     for kind in kinds.KINDS:
         for what, named in EACH:
             yield what, place(kind), ("count",), named.format(name=kind.name, least=kind.least, middle=kind.least // 2)
@@ -138,6 +161,8 @@ def report(name, changed, change):
     times = {(k.name, size): TIMES for k in kinds.KINDS for size in sorted({k.least, k.most})}
     times.update({(f"{check} frame", size): FRAME_TIMES for check in ("CRC", "checksum") for size in (8, 1440)})
     times["CRC", 1440] = CRC_TIMES
+    times.update({("printable text", size): calls for size, calls in TEXT_TIMES.items()})
+    times["refused text", 255] = TEXT_TIMES[15]
     times[changed] = {**times[changed], **change}
     lines = [f"{kind}\t{size}\t{call}\t{ns}" for (kind, size), calls in times.items() for call, ns in calls.items()]
     for place in "12":

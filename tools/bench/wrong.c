@@ -1,6 +1,6 @@
-// Stands in for the calls of the library and of the readers: does what they do, and one thing wrong, which WRONG in the environment names, for the
-// code byte that AT names, as in `command 69`, or for frames. The right ones are renamed. READERS is the list of the readers, READER(NAME, CODE)
-// each.
+// Stands in for the calls of the library, of the readers and of the check of a text: does what they do, and one thing wrong, which WRONG in the
+// environment names, for the code byte that AT names, as in `command 69`, for frames, or for a text by words or singly. The right ones are renamed.
+// READERS is the list of the readers, READER(NAME, CODE) each.
 #include <stdbool.h>
 #include <stdint.h>
 #include <stdio.h>
@@ -120,4 +120,34 @@ uint16_t right_bench_crc(uint16_t start, const uint8_t *bytes, size_t bytes_len)
 uint16_t bench_crc(uint16_t start, const uint8_t *bytes, size_t bytes_len)
 {
     return right_bench_crc(wrong_at("another start", "frame") ? 0 : start, bytes, bytes_len);
+}
+
+// What is made of a text with one thing wrong; an answer that reads less of it is the right one of a part.
+static int32_t printable(const char *how, int32_t (*right)(const uint8_t *s, size_t s_len), const uint8_t *s, size_t s_len)
+{
+    if (wrong_at("refuses all", how) || (wrong_at("a late answer", how) && late()))
+        return 0;
+    if (wrong_at("accepts all", how) || (wrong_at("accepts 0x7F", how) && memchr(s, 0x7F, s_len)))
+        return 1;
+    if (wrong_at("not the first byte", how) && s_len > 0)
+        return right(s + 1, s_len - 1);
+    if (wrong_at("not the last byte", how) && s_len > 0)
+        return right(s, s_len - 1);
+    if (wrong_at("only whole words", how))
+        return right(s, s_len / 8 * 8);
+    if (wrong_at("only the first word", how) && s_len > 8)
+        return right(s, 8);
+    return right(s, s_len) + wrong_at("a number", how);
+}
+
+int32_t right_bench_printable_text(const uint8_t *s, size_t s_len);
+int32_t bench_printable_text(const uint8_t *s, size_t s_len)
+{
+    return printable("words", right_bench_printable_text, s, s_len);
+}
+
+int32_t right_bench_printable_singly(const uint8_t *s, size_t s_len);
+int32_t bench_printable_singly(const uint8_t *s, size_t s_len)
+{
+    return printable("singly", right_bench_printable_singly, s, s_len);
 }
