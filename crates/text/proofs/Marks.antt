@@ -1,4 +1,4 @@
--- The test on a word of n bytes, byte by byte; the bytes of a word; and a text that is checked in two parts. Assumes nothing.
+-- A text that is checked in two parts; the test on a word of n bytes, byte by byte; and the bytes of a word. Assumes nothing.
 use mathlib.Core.Path.{_≡_, refl, ap, ap₂, _∙_}
 use mathlib.Core.Bool.{Bool, true, false, _&&_}
 use mathlib.Core.List.{List, [], _∷_}
@@ -6,23 +6,34 @@ use Prim.Native.Nat.{ℕ, zero, suc, _+_, _-_, _*_, _/_, _%_, _≤_, _<_}
 use native.Mathlib.Omega.{arith}
 use borrow.Author.Tests.{eq-eqb, ne-eqb, eqb-true, eqb-false}
 use lib.Bits.{bitAnd, bitOr, and-block, or-block, and-le-r, or-lt, and-zero-r}
-use lib.Dec.{leb, eqb, eqb→eq}
+use lib.Dec.{T, leb, ltb, eqb, eqb→eq, leb→le, ltb→lt}
+use mir.Facts.{and-yes}
 use lib.ListN.{length, getD, take, drop}
 use lib.Seq.{take-take, drop-cons, drop-drop}
 use Rattle.payload_util.specs.Bytes.{Bytes}
 use Rattle.payload_util.specs.Refusals.{row, require, _also_, inOrder}
 use Rattle.payload_util.specs.declared.Guard.{Guard}
-use Rattle.payload_util.proofs.Below.{below}
-use Rattle.text.specs.Text.{textCode, printableAt, printable, bytesOf}
+use Rattle.payload_util.specs.declared.Guard.the-variants.{Pass, Refused}
+use Rattle.payload_util.proofs.Below.{all, below}
+use Rattle.text.specs.Text.{textCode, printableAt, printable, bytesOf, KnownWord}
 
 -- ---- a text, byte by byte and in two parts
 
-abbrev shown : ℕ → Bool
-shown b = leb 0x20 b && leb b 0x7E
-
--- the answer to a yes or no
+-- the answer to a yes or no, and back
 abbrev pub told : Bool → Guard
 told t = require t (row 8 textCode 0 0)
+
+abbrev passes : Guard → Bool
+passes Pass = true
+passes (Refused e) = false
+
+-- whether a byte is printable
+abbrev shown : ℕ → Bool
+shown b = passes (printableAt (b ∷ []) 0)
+
+shown-is : (t : Bool) → told t ≡ told (passes (told t))
+shown-is true = refl
+shown-is false = refl
 
 later : (b : ℕ) (s : List ℕ) (i n : ℕ) → inOrder (printableAt (b ∷ s)) (suc i) n ≡ inOrder (printableAt s) i n
 unfolding inOrder
@@ -31,7 +42,7 @@ later b s i (suc n) = ap (λ (g : Guard). printableAt s i also g) (later b s (su
 
 first-byte : (b : ℕ) (s : List ℕ) → printable (b ∷ s) ≡ (told (shown b) also printable s)
 unfolding printable inOrder
-first-byte b s = ap (λ (g : Guard). told (shown b) also g) (later b s 0 (length s))
+first-byte b s = rw (later b s 0 (length s)) (ap (λ (g : Guard). g also printable s) (shown-is (leb 0x20 b && leb b 0x7E)))
 
 told-also : (t : Bool) (g h : Guard) → (told t also g also h) ≡ ((told t also g) also h)
 told-also true g h = refl
@@ -47,55 +58,82 @@ apart (suc n) (b ∷ s) =
 
 -- ---- the test on a word of n bytes
 
--- the number with a 1 in each of its n bytes
-abbrev ones : ℕ → ℕ
-ones zero = 0
-ones (suc n) = ones n * 256 + 1
+-- what the test computes of w, and of l, which is w without its top bits; o and u are for the two ends, h has the bits that are looked at
+abbrev marks : ℕ → ℕ → ℕ → ℕ → ℕ → ℕ
+marks o u h w l = bitAnd (bitOr (bitOr w (l + o)) (u - l)) h
 
--- the top bits that the test looks at; l is the word without its own top bits
-abbrev marks : ℕ → ℕ → ℕ → ℕ
-marks n w l = bitAnd (bitOr (bitOr w (l + ones n)) (159 * ones n - l)) (128 * ones n)
+abbrev bad : ℕ → ℕ → ℕ → ℕ → ℕ → ℕ
+bad m o u h w = marks o u h w (bitAnd w m)
 
-abbrev bad : ℕ → ℕ → ℕ
-bad n w = marks n w (bitAnd w (127 * ones n))
-
--- neither the sum nor the difference carries: the lowest byte and the rest are marked apart
-marks-step : (n q r l k : ℕ) → r < 256 → l ≤ 127 * ones n → k ≤ 127
-    → marks (suc n) (q * 256 + r) (l * 256 + k) ≡ marks n q l * 256 + marks 1 r k
-marks-step n q r l k hr hl hk =
-    let over : l * 256 + k + (ones n * 256 + 1) ≡ (l + ones n) * 256 + (k + 1) = omega arith in
-    let under : 159 * (ones n * 256 + 1) - (l * 256 + k) ≡ (159 * ones n - l) * 256 + (159 - k) = omega arith in
-    let mask : 128 * (ones n * 256 + 1) ≡ 128 * ones n * 256 + 128 = omega arith in
-    let hk1 : k + 1 < 256 = omega arith in
-    let hk2 : 159 - k < 256 = omega arith in
-    let h1 : bitOr r (k + 1) < 256 = or-lt 8 r (k + 1) hr hk1 in
-    rw (
-      over,
-      under,
-      mask,
-      or-block 8 q (l + ones n) r (k + 1) hr hk1,
-      or-block 8 (bitOr q (l + ones n)) (159 * ones n - l) (bitOr r (k + 1)) (159 - k) h1 hk2,
-      and-block 8 _ (128 * ones n) _ 128 (or-lt 8 (bitOr r (k + 1)) (159 - k) h1 hk2) (omega arith),
-    )
-
-bad-step : (n w : ℕ) → bad (suc n) w ≡ bad n (w / 256) * 256 + bad 1 (w % 256)
-bad-step n w =
-    let split : w ≡ w / 256 * 256 + w % 256 = omega arith in
-    let mask : 127 * (ones n * 256 + 1) ≡ 127 * ones n * 256 + 127 = omega arith in
-    let q = w / 256 in
-    let r = w % 256 in
-    let hr : r < 256 = omega arith in
-    let low : bitAnd w (127 * ones (suc n)) ≡ bitAnd q (127 * ones n) * 256 + bitAnd r 127 =
-    ap₂ bitAnd split mask ∙ and-block 8 q (127 * ones n) r 127 hr (omega arith) in
-    ap₂ (marks (suc n)) split low ∙ marks-step n q r (bitAnd q (127 * ones n)) (bitAnd r 127) hr (and-le-r q (127 * ones n)) (and-le-r r 127)
-
--- a byte's mark, for each of the 256
+-- a byte's mark
 abbrev mark : Bool → ℕ
 mark true = 0
 mark false = 128
 
-marked : (b : ℕ) → b < 256 → bad 1 b ≡ mark (shown b)
-marked b h = eqb→eq (bad 1 b) (mark (shown b)) (below (λ (x : ℕ). eqb (bad 1 x) (mark (shown x))) 256 tt b h)
+-- one byte of the masks m, o, u and h is right: nothing carries out of it, and each of the 256 bytes has its mark
+abbrev fits : ℕ → ℕ → ℕ → Bool
+fits m o u = ltb (m + o) 256 && leb m u
+
+abbrev marked : ℕ → ℕ → ℕ → ℕ → Bool
+marked m o u h = all (λ (b : ℕ). eqb (bad m o u h b) (mark (shown b))) 256
+
+abbrev lane : ℕ → ℕ → ℕ → ℕ → Bool
+lane m o u h = fits m o u && marked m o u h
+
+-- n bytes of them are, and no bit further up is looked at
+abbrev lanes : ℕ → ℕ → ℕ → ℕ → ℕ → Bool
+lanes zero m o u h = leb m u && eqb h 0
+lanes (suc n) m o u h = lane (m % 256) (o % 256) (u % 256) (h % 256) && lanes n (m / 256) (o / 256) (u / 256) (h / 256)
+
+right : (m o u h : ℕ) → T (lane m o u h) → (m + o < 256) × (m ≤ u) × ((b : ℕ) → b < 256 → bad m o u h b ≡ mark (shown b))
+right m o u h t =
+    let (f, a) = and-yes (fits m o u) (marked m o u h) t in
+    let (s, d) = and-yes (ltb (m + o) 256) (leb m u) f in
+    (ltb→lt (m + o) 256 s, leb→le m u d, λ b lt. eqb→eq (bad m o u h b) (mark (shown b)) (below (λ (x : ℕ). eqb (bad m o u h x) (mark (shown x))) 256 a b lt))
+
+lowest : (n m o u h : ℕ) → T (lanes (suc n) m o u h)
+    → T (lane (m % 256) (o % 256) (u % 256) (h % 256)) × T (lanes n (m / 256) (o / 256) (u / 256) (h / 256))
+lowest n m o u h t = and-yes (lane (m % 256) (o % 256) (u % 256) (h % 256)) (lanes n (m / 256) (o / 256) (u / 256) (h / 256)) t
+
+lanes-le : (n m o u h : ℕ) → T (lanes n m o u h) → m ≤ u
+lanes-le zero m o u h t = leb→le m u (and-yes (leb m u) (eqb h 0) t .0)
+lanes-le (suc n) m o u h t =
+    let (one, more) = lowest n m o u h t in
+    omega (arith, right (m % 256) (o % 256) (u % 256) (h % 256) one .1, lanes-le n (m / 256) (o / 256) (u / 256) (h / 256) more)
+
+-- neither the sum nor the difference carries: the lowest byte and the rest are marked apart
+marks-step : (O U H q l o u h r k : ℕ) → r < 256 → k + o < 256 → k ≤ u → u < 256 → h < 256 → l ≤ U
+    → marks (O * 256 + o) (U * 256 + u) (H * 256 + h) (q * 256 + r) (l * 256 + k) ≡ marks O U H q l * 256 + marks o u h r k
+marks-step O U H q l o u h r k hr ho hk hu hh hl =
+    let over : l * 256 + k + (O * 256 + o) ≡ (l + O) * 256 + (k + o) = omega arith in
+    let under : U * 256 + u - (l * 256 + k) ≡ (U - l) * 256 + (u - k) = omega arith in
+    let hd : u - k < 256 = omega arith in
+    let h1 : bitOr r (k + o) < 256 = or-lt 8 r (k + o) hr ho in
+    rw (
+      over,
+      under,
+      or-block 8 q (l + O) r (k + o) hr ho,
+      or-block 8 (bitOr q (l + O)) (U - l) (bitOr r (k + o)) (u - k) h1 hd,
+      and-block 8 _ H _ h (or-lt 8 (bitOr r (k + o)) (u - k) h1 hd) hh,
+    )
+
+split : (x : ℕ) → x ≡ x / 256 * 256 + x % 256
+split x = omega arith
+
+same-marks : {o u h w l o′ u′ h′ w′ l′ : ℕ} → o ≡ o′ → u ≡ u′ → h ≡ h′ → w ≡ w′ → l ≡ l′ → marks o u h w l ≡ marks o′ u′ h′ w′ l′
+same-marks eo eu eh ew el = cc
+
+bad-step : (m o u h w : ℕ) → m % 256 + o % 256 < 256 → m % 256 ≤ u % 256 → m / 256 ≤ u / 256
+    → bad m o u h w ≡ bad (m / 256) (o / 256) (u / 256) (h / 256) (w / 256) * 256 + bad (m % 256) (o % 256) (u % 256) (h % 256) (w % 256)
+bad-step m o u h w fits low high =
+    let l = bitAnd (w / 256) (m / 256) in
+    let k = bitAnd (w % 256) (m % 256) in
+    let hl : l ≤ m / 256 = and-le-r (w / 256) (m / 256) in
+    let hk : k ≤ m % 256 = and-le-r (w % 256) (m % 256) in
+    let masked : bitAnd w m ≡ l * 256 + k = ap₂ bitAnd (split w) (split m) ∙ and-block 8 (w / 256) (m / 256) (w % 256) (m % 256) (omega arith) (omega arith) in
+    same-marks (split o) (split u) (split h) (split w) masked
+    ∙ marks-step (o / 256) (u / 256) (h / 256) (w / 256) l (o % 256) (u % 256) (h % 256) (w % 256) k
+    (omega arith) (omega arith) (omega arith) (omega arith) (omega arith) (omega arith)
 
 -- no byte is marked if neither the lowest nor another is
 joined : (t u : Bool) (a : ℕ) → eqb a 0 ≡ u → told (eqb (a * 256 + mark t) 0) ≡ (told t also told u)
@@ -103,15 +141,26 @@ joined true true a e = let z : a ≡ 0 = eqb-true a 0 e in ap told (eq-eqb (a * 
 joined true false a e = let z : a ≡ 0 → ⊥ = eqb-false a 0 e in ap told (ne-eqb _ _ (λ (h : a * 256 + 0 ≡ 0). z (omega arith)))
 joined false u a e = ap told (ne-eqb _ _ (λ (h : a * 256 + 128 ≡ 0). omega arith))
 
--- the test on a word of n bytes is the check of its bytes
-pub word-test : (n w : ℕ) → told (eqb (bad n w) 0) ≡ printable (bytesOf n w)
+-- if the masks are right, the test on a word of n bytes is the check of its bytes
+pub word-test : (n m o u h w : ℕ) → T (lanes n m o u h) → told (eqb (bad m o u h w) 0) ≡ printable (bytesOf n w)
 unfolding bytesOf printable inOrder
-word-test zero w = simp and-zero-r
-word-test (suc n) w =
-    rw (bad-step n w, marked (w % 256) (omega arith), first-byte (w % 256) (bytesOf n (w / 256)), ← word-test n (w / 256))
-    (joined (shown (w % 256)) _ (bad n (w / 256)) refl)
+word-test zero m o u h w t = rw (eqb→eq h 0 (and-yes (leb m u) (eqb h 0) t .1), and-zero-r)
+word-test (suc n) m o u h w t =
+    let (one, more) = lowest n m o u h t in
+    let (sum, difference, byte) = right (m % 256) (o % 256) (u % 256) (h % 256) one in
+    rw (
+      bad-step m o u h w sum difference (lanes-le n (m / 256) (o / 256) (u / 256) (h / 256) more),
+      byte (w % 256) (omega arith),
+      first-byte (w % 256) (bytesOf n (w / 256)),
+      ← word-test n (m / 256) (o / 256) (u / 256) (h / 256) (w / 256) more,
+    )
+    (joined (shown (w % 256)) _ (bad (m / 256) (o / 256) (u / 256) (h / 256) (w / 256)) refl)
 
 -- ---- the word of eight bytes
+
+pub known-word : KnownWord
+unfolding bytesOf
+known-word = refl
 
 -- the n bytes of p from index i on as a number, lowest first
 abbrev pub wordOf : ℕ → ℕ → List ℕ → ℕ

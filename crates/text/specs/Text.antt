@@ -1,6 +1,6 @@
 -- osdp_TEXT (0x6B), R4.3, §6.12, Tables 21 and 22: reader, command, time, row, column, length, and so many bytes of text.
 use mathlib.Core.Bool.{_&&_}
-use Rattle.payload_util.specs.Prelude.{List, [], _∷_, ℕ, zero, suc, _/_, _%_, leb, length, drop, byteAt, row, require, _also_, headAndTail, atMost, inOrder}
+use Rattle.payload_util.specs.Prelude.{_≡_, List, [], _∷_, ℕ, zero, suc, _/_, _%_, leb, length, drop, byteAt, row, require, _also_, headAndTail, atMost, inOrder}
 use Rattle.payload_util.specs.Prelude.{named, Outcome, gives, refuses, guardOf, valueOr, nothing, Form, tailed}
 use Rattle.payload_util.specs.declared.Guard.{Guard}
 use Rattle.text.specs.declared.{Text.Text, TextRead.TextRead, TextRead.the-variants.Read, TextRead.the-variants.Refused}
@@ -41,6 +41,10 @@ printable s = inOrder (printableAt s) 0 (length s)
 unfoldable pub bytesOf : ℕ → ℕ → List ℕ
 bytesOf zero w = []
 bytesOf (suc n) w = w % 256 ∷ bytesOf n (w / 256)
+
+-- the word of the characters ABCDEFGH
+abbrev pub KnownWord : Type 0
+KnownWord = bytesOf 8 0x4847_4645_4443_4241 ≡ 0x41 ∷ 0x42 ∷ 0x43 ∷ 0x44 ∷ 0x45 ∷ 0x46 ∷ 0x47 ∷ 0x48 ∷ []
 
 -- a reader checks the least length, the length field, the text and then the command
 unfoldable pub textShape : List ℕ → Guard

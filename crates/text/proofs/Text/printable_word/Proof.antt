@@ -1,4 +1,4 @@
--- `Text::printable_word` meets its contract: eight bytes of `word-test`. Assumes nothing.
+-- `Text::printable_word` meets its contract: eight bytes of `word-test`, whose masks are the code's. Assumes nothing.
 use native.Mathlib.Omega.{arith}
 use lib.Bits.{and-le-r}
 use Rattle.text.proofs.Marks.{word-test}
@@ -11,4 +11,4 @@ printable-word-spec =
     (tie.spec
     (λ c. omega (arith, and-le-r (c .args .w) 0x7F7F_7F7F_7F7F_7F7F))
     (λ c. omega (arith, and-le-r (c .args .w) 0x7F7F_7F7F_7F7F_7F7F))
-    (λ c. word-test 8 (c .args .w)))
+    (λ c. word-test 8 _ _ _ _ (c .args .w) tt))
