@@ -1,6 +1,8 @@
 // The readers, for tools/bench to time: a call for each kind, and one for frames, reads a record and its tail, and answers with a number that each
 // field, the tail's length and its last byte change, or with the refusal's number negated. The contracts say when it is which, and not which number
 // it is. Of the writer of frames and of the CRC they say everything.
+#![tactic(auto)]
+
 use crate::number::{answer, refused, sum, tailed};
 use bio::{BioMatchR, BioMatchRRead, BioReadR, BioReadRRead};
 use biometric::{BioHead, BioMatch, BioMatchRead, BioRead, BioReadRead};

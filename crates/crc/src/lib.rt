@@ -1,4 +1,6 @@
 // The two checks of a frame, over bytes that may come in parts: each goes on from a start.
+#![tactic(auto)]
+
 ghost use Rattle.std.specs.Prelude.{◌≡◌};
 ghost use Rattle.crc.specs.Crc.{crc_bit, crc_byte, crc_of};
 ghost use Rattle.crc.specs.Sum.{sum_of, twos_complement};

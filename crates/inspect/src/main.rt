@@ -1,4 +1,6 @@
 // Shows payloads in words: reads lines such as `command 69 00 00 ..` from standard input or from a file.
+#![tactic(auto)]
+
 use inspect_answer::input::all;
 use inspect_form::out::flush;
 use inspect_line::LONGEST;

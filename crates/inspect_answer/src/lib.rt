@@ -1,4 +1,6 @@
 // Payloads in words, line by line: the codes' names, and what is shown of a kind's records.
+#![tactic(auto)]
+
 mod answer;
 pub mod input;
 

@@ -1,4 +1,6 @@
 // What is shown of each kind: the fixed fields of its record as numbers, in their order, and its tail.
+#![tactic(auto)]
+
 ghost use Rattle.std.specs.Prelude.{◌≡◌, [], ◌∷◌, ◌≤◌, length};
 ghost use Rattle.osdp.specs.declared.Kind.TheVariants as kinds;
 ghost use Rattle.inspect_fields.specs.Fields.{head_fields, padded, fields_of};

@@ -1,4 +1,6 @@
 // Templates: words in which % and a letter stand for a number, the name of a number, or bytes.
+#![tactic(auto)]
+
 mod names;
 pub mod out;
 pub mod table;

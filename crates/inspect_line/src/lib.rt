@@ -1,4 +1,6 @@
 // A line of the input, taken byte by byte: `command` or `reply`, the code byte, and the payload, all bytes in hex.
+#![tactic(auto)]
+
 use osdp::Side;
 use std::num::wrapping_add_usize;
 

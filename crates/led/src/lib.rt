@@ -1,4 +1,6 @@
 // osdp_LED (0x69), reader LED control: a list of records, each with a temporary and a permanent half.
+#![tactic(auto)]
+
 ghost use Rattle.payload_util.specs.Prelude.{◌≡◌, ◌*◌, ◌/◌, ◌≤◌, ◌<◌, length, take, in_order, keep, times, limited, within_limits, check, read, write, normalise};
 ghost use Rattle.lists.specs.List.{put_at};
 ghost use Rattle.led.specs.Led.{color_byte, color_of, highest_color};

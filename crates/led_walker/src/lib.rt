@@ -1,4 +1,6 @@
 // A walker over the records of an LED payload: it holds the payload and an offset, and hands out the records in order.
+#![tactic(auto)]
+
 ghost use Rattle.std.specs.Prelude.{◌≡◌};
 ghost use Rattle.led_walker.specs.Walk.{start_led, started_led, offset_after, moved_led, stepped};
 

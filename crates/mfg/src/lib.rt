@@ -1,4 +1,6 @@
 // osdp_MFG (0x80), manufacturer-specific command: the vendor's OUI, and data that only the vendor reads.
+#![tactic(auto)]
+
 ghost use Rattle.payload_util.specs.Prelude.{◌≡◌, ◌≤◌, length, check, fields, read, tail, write, normalise};
 ghost use Rattle.mfg.specs.Mfg.{mfg_outcome, mfg};
 

@@ -1,4 +1,6 @@
 // osdp_OUT (0x68), output control: a list of records, one for each output to drive.
+#![tactic(auto)]
+
 ghost use Rattle.std.specs.Prelude.{true};
 ghost use Rattle.payload_util.specs.Prelude.{◌≡◌, ◌+◌, ◌*◌, ◌/◌, ◌≤◌, length, drop, in_order, guard_of, check, read, write, normalise};
 ghost use Rattle.lists.specs.List.{put_at};

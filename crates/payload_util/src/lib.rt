@@ -1,4 +1,6 @@
 // What every payload kind shares: the refusal, the guards of payload_util.rs, numbers of several bytes, and the last step of every writer.
+#![tactic(auto)]
+
 ghost use Rattle.std.specs.Prelude.{◌≡◌, ◌&&◌, ◌++◌, ltb, leb, eqb, ◌+◌, ◌*◌, ◌/◌, ◌%◌, ◌≤◌, ◌<◌, min, length, drop};
 ghost use Rattle.std.proofs.Math.Seq.{paste};
 ghost use Rattle.payload_util.specs.Refusals.{row, require, refusal_of};

@@ -1,4 +1,6 @@
 // Kinds of one exact length whose fields take every value: a module for each Rust file.
+#![tactic(auto)]
+
 pub mod acu_rx_size;
 pub mod com;
 pub mod comset;

@@ -1,4 +1,6 @@
 // Reads cases with their answers from standard input, replays them on the library, and says how many differ. README.md has the format.
+#![tactic(auto)]
+
 mod case;
 mod stream;
 mod tally;

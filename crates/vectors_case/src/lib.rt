@@ -1,4 +1,6 @@
 // A case with its wanted answer, and what every comparison shares: buffers that are filled up, and the fields of records made by hand.
+#![tactic(auto)]
+
 ghost use Rattle.std.specs.Prelude.{◌≡◌, true, ◌↔◌, ◌<◌, length};
 ghost use Rattle.payload_util.specs.Bytes.{byte_at, u16_at, u32_at, u16_bytes, u32_bytes};
 ghost use Rattle.payload_util.specs.Refusals.{row};

@@ -1,4 +1,6 @@
 // Classes 15, 16 and 17: frames that are read, frames that are written, and the two checks of bytes.
+#![tactic(auto)]
+
 ghost use Rattle.std.specs.Prelude.{◌≡◌, length};
 
 use frame::{Frame, FrameRead};

@@ -1,4 +1,6 @@
 // The code tables, and the kinds' own readers: for classes 0, 5, 6, 10 and 13 of crates/vectors.
+#![tactic(auto)]
+
 pub mod list;
 mod names;
 mod read_bio;

@@ -1,4 +1,6 @@
 // The kinds' own checks and normalisers, which have no limit on the payload's length: for classes 5 and 6 of crates/vectors.
+#![tactic(auto)]
+
 ghost use Rattle.std.specs.Prelude.{◌≡◌, length};
 
 use bio::{BioMatchR, BioReadR};

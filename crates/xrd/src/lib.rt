@@ -1,4 +1,6 @@
 // osdp_XRD (0xB1), extended-read reply: the mode of the request, and data of that mode.
+#![tactic(auto)]
+
 ghost use Rattle.payload_util.specs.Prelude.{◌≡◌, ◌≤◌, length, check, fields, read, tail, write, normalise};
 ghost use Rattle.xrd.specs.Xrd.{xrd_outcome, xrd};
 
