@@ -9,7 +9,7 @@ use native.Mathlib.Omega.{arith}
 use borrow.Author.Tests.{leb-true, leb-false, eqb-true, ltb-true, le-leb, lt-leb, lt-ltb, eq-eqb}
 use lib.ListN.{length, drop, length-drop}
 use lib.Dec.{leb, ltb, eqb}
-use Rattle.payload_util.specs.Refusals.{row, require, ◌also◌, refusal_of}
+use Rattle.payload_util.specs.Refusals.{require, ◌also◌, refusal_of}
 use Rattle.payload_util.specs.Outcome.{Outcome, gives, refuses, outcome, guard_of}
 use Rattle.payload_util.specs.Guards.{exact_len, at_least, blocks_from, positive_multiple_of, declared_len, head_and_tail, at_most, tail_len, room, present}
 use Rattle.payload_util.specs.declared.Refusal.{Refusal}

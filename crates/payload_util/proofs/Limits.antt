@@ -7,7 +7,7 @@ use Prim.Native.Nat.{ℕ, ◌≤◌}
 use native.Mathlib.Omega.{arith}
 use borrow.Author.Tests.{le-leb, leb-true, leb-false}
 use lib.Dec.{leb}
-use lib.ListN.{length, get_or, get_or-eq_default}
+use lib.ListN.{length, get_or-eq_default}
 use Rattle.payload_util.specs.Refusals.{row, require, in_order}
 use Rattle.payload_util.specs.Bytes.{byte_at}
 use Rattle.payload_util.specs.Loss.{Keep, any, up_to, fits, Loss, limits, without, limited, within_limits}

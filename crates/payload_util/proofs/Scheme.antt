@@ -2,7 +2,7 @@
 -- Assumes nothing.
 use mathlib.Core.Path.{◌≡◌, refl, sym, ap, ap₂, ◌∙◌}
 use mathlib.Core.Logic.{◌↔◌}
-use mathlib.Core.List.{List, ◌++◌}
+use mathlib.Core.List.{List}
 use Prim.Native.Nat.{ℕ, zero, ◌*◌, ◌/◌, ◌<◌}
 use native.Mathlib.Omega.{arith}
 use lib.ListN.{length, get_or, take, drop, length-append, length-drop}
@@ -12,7 +12,7 @@ use Rattle.payload_util.specs.Refusals.{◌also◌}
 use Rattle.payload_util.specs.Outcome.{Outcome, gives, refuses, outcome, tail_where}
 use Rattle.payload_util.specs.Guards.{room, present}
 use Rattle.payload_util.specs.Writing.{Effect, effect, room_last, put_checked, Leaves, rewrite}
-use Rattle.payload_util.specs.Loss.{Loss, without}
+use Rattle.payload_util.specs.Loss.{without}
 use Rattle.payload_util.specs.Form.{Listed, Form, fixed, tailed, listed, code, loss, check, Record, whole, refuse, bytes}
 use Rattle.payload_util.specs.Form.{read, written, normalise, Accepted, ReadsAs, WritesAs, LosesOnly}
 use Rattle.payload_util.specs.declared.Guard.{Guard}

@@ -69,6 +69,7 @@ pub fn require(holds: bool, number: u8, code: u8, first: usize, second: usize) -
 }
 
 // Row 3.
+#[tactic(auto, unfolding(crate::specs::Guards::exact_len))]
 pub fn require_exact_len(payload: &[u8], expected: usize, code: u8) -> Guard
     ensures { result ≡ exact_len expected code payload.now }
 {
@@ -76,6 +77,7 @@ pub fn require_exact_len(payload: &[u8], expected: usize, code: u8) -> Guard
 }
 
 // Row 4.
+#[tactic(auto, unfolding(crate::specs::Guards::at_least))]
 pub fn require_at_least(payload: &[u8], min: usize, code: u8) -> Guard
     ensures { result ≡ at_least min code payload.now }
 {
@@ -96,6 +98,7 @@ fn in_blocks(least: usize, block: usize, n: usize) -> bool
 }
 
 // Row 5, also for an empty payload.
+#[tactic(auto, unfolding(crate::specs::Guards::blocks_from))]
 pub fn require_positive_multiple_of(payload: &[u8], block: usize, code: u8) -> Guard
     ensures { result ≡ positive_multiple_of block code payload.now }
 {
@@ -104,6 +107,7 @@ pub fn require_positive_multiple_of(payload: &[u8], block: usize, code: u8) -> G
 }
 
 // Row 5; a block of 0 is refused too.
+#[tactic(auto, unfolding(crate::specs::Guards::blocks_from))]
 pub fn require_multiple_of(payload: &[u8], block: usize, code: u8) -> Guard
     ensures { result ≡ multiple_of block code payload.now }
 {
@@ -112,6 +116,7 @@ pub fn require_multiple_of(payload: &[u8], block: usize, code: u8) -> Guard
 }
 
 // Row 6: the payload has as many bytes as its fields ask for.
+#[tactic(auto, unfolding(crate::specs::Guards::declared_len))]
 pub fn require_declared_len(payload: &[u8], asked: usize, code: u8) -> Guard
     ensures { result ≡ declared_len asked code payload.now }
 {
@@ -119,6 +124,7 @@ pub fn require_declared_len(payload: &[u8], asked: usize, code: u8) -> Guard
 }
 
 // Rows 4 and 6: the fixed fields, and a tail of as many bytes as they ask for.
+#[tactic(auto, using(crate::proofs::Guards::passed, crate::proofs::Guards::stopped, crate::proofs::Guards::skipped, crate::proofs::Guards::least_pass))]
 pub fn require_head_and_tail(payload: &[u8], head: usize, tail: u16, code: u8) -> Guard
     ensures { result ≡ head_and_tail head tail code payload.now }
 {
@@ -130,6 +136,7 @@ pub fn require_head_and_tail(payload: &[u8], head: usize, tail: u16, code: u8) -
 }
 
 // Row 12: a tail that is to be written has at most max bytes.
+#[tactic(auto, unfolding(crate::specs::Guards::at_most))]
 pub fn require_at_most(tail: &[u8], max: usize, code: u8) -> Guard
     ensures { result ≡ at_most max code tail.now }
 {
@@ -137,6 +144,7 @@ pub fn require_at_most(tail: &[u8], max: usize, code: u8) -> Guard
 }
 
 // Row 13: a tail that is to be written has as many bytes as the record's count asks for.
+#[tactic(auto, unfolding(crate::specs::Guards::tail_len))]
 pub fn require_tail_len(tail: &[u8], asked: usize, code: u8) -> Guard
     ensures { result ≡ tail_len asked code tail.now }
 {
@@ -155,6 +163,7 @@ pub fn end_need(offset: usize, len: usize) -> usize
 }
 
 // Row 15: the buffer has room for what is to be written.
+#[tactic(auto, unfolding(crate::specs::Guards::room))]
 pub fn require_room(needed: usize, code: u8, given: usize) -> Guard
     ensures { result ≡ room code needed given }
 {
@@ -162,6 +171,7 @@ pub fn require_room(needed: usize, code: u8, given: usize) -> Guard
 }
 
 // Row 16: a list has a record at this index.
+#[tactic(auto, unfolding(crate::specs::Guards::present))]
 pub fn require_present(index: usize, count: usize, code: u8) -> Guard
     ensures { result ≡ present code index count }
 {
@@ -187,6 +197,7 @@ pub fn folded(b: u8, highest: u8) -> u8
 }
 
 // Folds the byte at an offset, and no other; an offset past the end changes nothing.
+#[tactic(auto, using(crate::proofs::Folds::only_at_lem, crate::proofs::Folds::only_past))]
 pub fn fold_at(out: &mut [u8], offset: usize, highest: u8)
     ensures { out.new ≡ keep (only_at offset highest) out.old }
 {
