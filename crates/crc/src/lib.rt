@@ -6,6 +6,7 @@ ghost use Rattle.crc.specs.Crc.{crc_bit, crc_byte, crc_of};
 ghost use Rattle.crc.specs.Sum.{sum_of, twos_complement};
 
 // One bit: a shift, and the polynomial if a 1 comes out at the top.
+#[tactic(auto, unfolding(crate::specs::Crc::crc_bit))]
 fn crc_bit(c: u16) -> u16
     ensures { result ≡ crc_bit c }
 {
@@ -30,6 +31,7 @@ fn crc_byte(c: u16, b: u8) -> u16
 }
 
 // The CRC of all bytes, bit by bit.
+#[tactic(auto, using(crate::proofs::Walk::walk_more, crate::proofs::Walk::walk_done))]
 pub fn crc(start: u16, bytes: &[u8]) -> u16
     ensures { result ≡ crc_of start bytes.now }
 {
