@@ -1,7 +1,6 @@
 -- A buffer into which bytes are written at a place, and one into which a list's records are written one after the other.
 -- Assumes nothing.
 use mathlib.Core.Path.{◌≡◌, refl, sym, ◌∙◌, ap, ap₂}
-use mathlib.Core.Bool.{Bool, true, false}
 use mathlib.Core.List.{List, [], ◌∷◌, ◌++◌, append_assoc, append-nil}
 use Prim.Native.Nat.{ℕ, suc, ◌+◌, ◌*◌, ◌-◌, ◌≤◌, ◌<◌}
 use native.Mathlib.Nat.{suc-mul, zero-mul, mul-le-mul_right}
@@ -20,7 +19,7 @@ use Rattle.payload_util.specs.declared.Written.{Written}
 use Rattle.payload_util.specs.declared.Written.TheVariants.{Wrote, Refused}
 use Rattle.payload_util.proofs.Guards.{room_pass, pass_room, also_pass}
 use Rattle.payload_util.proofs.Parts.{part_to_end}
-use Rattle.lists.specs.List.{answer, list_answer, effect_at, put_at}
+use Rattle.lists.specs.List.{answer, list_answer, put_at}
 
 -- bytes that were put at the front of the part that starts at a place; e is that part afterwards
 module _ (code at : ℕ) (bytes out e : List ℕ) (r : Written) where
