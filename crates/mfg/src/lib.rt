@@ -31,6 +31,7 @@ impl Mfg {
         require_at_least(p, Self::WIRE_LEN, Self::CODE)
     }
 
+    #[tactic(auto, using(payload_util::proofs::Guards::least_pass))]
     pub fn decode(p: &[u8]) -> MfgRead
         ensures { mfg_outcome result ≡ read mfg p.now }
     {
