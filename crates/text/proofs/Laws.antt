@@ -24,13 +24,10 @@ use Rattle.text.specs.declared.TextCommand.TheVariants.{PermanentNoWrap, Permane
 -- a command's byte reads back as the command
 pub text_command_back : (c : TextCommand) → read_text_command (text_command_byte c) ≡ gives c
 unfolding read_text_command
-text_command_back c =
-    elim c [
-      | PermanentNoWrap ↦ refl
-      | PermanentWrap ↦ refl
-      | TemporaryNoWrap ↦ refl
-      | TemporaryWrap ↦ refl
-    ]
+text_command_back PermanentNoWrap = refl
+text_command_back PermanentWrap = refl
+text_command_back TemporaryNoWrap = refl
+text_command_back TemporaryWrap = refl
 
 -- a byte that reads as a command is that command's byte
 pub text_command_exact : (b : ℕ) (c : TextCommand) → read_text_command b ≡ gives c → text_command_byte c ≡ b

@@ -26,6 +26,7 @@ pub enum TextCommandRead {
 
 impl TextCommand {
     // Row 9 if no command has this byte.
+    #[tactic(auto, unfolding(crate::specs::Text::read_text_command))]
     pub fn from_byte(b: u8) -> TextCommandRead
         ensures { text_command_outcome result ≡ read_text_command b }
     {
@@ -134,6 +135,7 @@ impl Text {
     }
 
     // The checks that come before the command.
+    #[tactic(auto, unfolding(crate::specs::Text::text_shape))]
     fn shape(p: &[u8]) -> Guard
         ensures { result ≡ text_shape p.now }
     {
@@ -145,6 +147,7 @@ impl Text {
         Self::validate_ascii(tail_from(p, Self::WIRE_LEN))
     }
 
+    #[tactic(auto, using(crate::proofs::Laws::shape_least))]
     pub fn check(p: &[u8]) -> Guard
         ensures { result ≡ check text_kind p.now }
     {
@@ -158,6 +161,7 @@ impl Text {
         }
     }
 
+    #[tactic(auto, using(crate::proofs::Laws::shape_least))]
     pub fn decode(p: &[u8]) -> TextRead
         ensures { text_outcome result ≡ read text_kind p.now }
     {
@@ -191,6 +195,7 @@ impl Text {
         tail_where(Self::check(p), p, Self::WIRE_LEN)
     }
 
+    #[tactic(auto, using(payload_util::proofs::Guards::most_pass))]
     pub fn encode(self, text: &[u8], out: &mut [u8]) -> Written
         ensures { (result, out.new) ≡ write text_kind self text.now out.old }
     {
