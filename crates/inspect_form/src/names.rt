@@ -1,10 +1,12 @@
 // The names of numbers.
 use crate::out::word;
 use crate::table::{label, nth, row};
+use std::io;
+use std::io::Write;
 
 // The name that a letter's row has for a number, counted from 0, after the words before it: for a code, the Rust's. Nothing where the
 // row has none.
-pub(crate) fn name(letter: u8, n: u64, before: &[u8], out: &mut [u8], at: usize) -> usize {
+pub(crate) fn name<W: Write>(letter: u8, n: u64, before: &[u8], out: &mut W) -> io::Result<()> {
     let names = row(
         label(b'%', letter, b' '),
         b";%C Black.Red.Green.Amber.Blue.Magenta.Cyan.White\
@@ -35,8 +37,8 @@ pub(crate) fn name(letter: u8, n: u64, before: &[u8], out: &mut [u8], at: usize)
     );
     let found = nth(n, names);
     if found.len() == 0 {
-        return at;
+        return Ok(());
     }
-    let start = word(before, &mut *out, at);
-    word(found, out, start)
+    word(before, out)?;
+    word(found, out)
 }
