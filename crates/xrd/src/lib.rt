@@ -29,6 +29,7 @@ impl Xrd {
         require_at_least(p, Self::WIRE_LEN, Self::CODE)
     }
 
+    #[tactic(auto, using(payload_util::proofs::Guards::least_pass))]
     pub fn decode(p: &[u8]) -> XrdRead
         ensures { xrd_outcome result ≡ read xrd p.now }
     {
