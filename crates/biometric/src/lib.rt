@@ -37,6 +37,7 @@ impl BioType {
     const HIGHEST: u8 = 0x11;
 
     // Any other byte becomes NotSpecified.
+    #[tactic(auto, unfolding(crate::specs::Biometric::bio_type_of))]
     pub fn from_byte(b: u8) -> BioType
         ensures { result ≡ bio_type_of b }
     {
@@ -101,6 +102,7 @@ impl BioFormat {
     const HIGHEST: u8 = 2;
 
     // Any other byte becomes NotSpecified.
+    #[tactic(auto, unfolding(crate::specs::Biometric::bio_format_of))]
     pub fn from_byte(b: u8) -> BioFormat
         ensures { result ≡ bio_format_of b }
     {
@@ -205,12 +207,14 @@ impl BioHead {
     }
 
     // The calls for a head with a template are shared by BIOMATCH and BIOREADR: each gives its own code.
+    #[tactic(auto, unfolding(crate::specs::Biometric::check_template))]
     pub fn check_template(p: &[u8], code: u8) -> Guard
         ensures { result ≡ check_template code p.now }
     {
         require_head_and_tail(p, Self::TEMPLATE_AT, u16_at(p, 4), code)
     }
 
+    #[tactic(auto, using(crate::proofs::Laws::template_pass))]
     pub fn decode_template(p: &[u8], code: u8) -> BioHeadRead
         ensures { head_outcome result ≡ read (headed code) p.now }
     {
@@ -221,6 +225,7 @@ impl BioHead {
         BioHeadRead::Read(Self::fields(p))
     }
 
+    #[tactic(auto, using(payload_util::proofs::Guards::most_pass))]
     pub fn encode_template(self, template: &[u8], code: u8, out: &mut [u8]) -> Written
         ensures { (result, out.new) ≡ write (headed code) self template.now out.old }
     {
@@ -238,6 +243,7 @@ impl BioHead {
         )
     }
 
+    #[tactic(auto, using(crate::proofs::Laws::template_pass))]
     pub fn normalise_template(p: &[u8], code: u8, out: &mut [u8]) -> Written
         ensures { (result, out.new) ≡ put_checked (check_template code p.now) code (without bio_loss p.now) out.old }
     {
@@ -268,6 +274,7 @@ impl BioRead {
         require_exact_len(p, Self::WIRE_LEN, Self::CODE)
     }
 
+    #[tactic(auto, using(payload_util::proofs::Guards::exact_pass))]
     pub fn decode(p: &[u8]) -> BioReadRead
         ensures { bio_read_outcome result ≡ read bio_read p.now }
     {
@@ -287,6 +294,7 @@ impl BioRead {
         put_bytes(&head.bytes(), &[], Self::CODE, out)
     }
 
+    #[tactic(auto, using(payload_util::proofs::Guards::exact_pass))]
     pub fn normalise(p: &[u8], out: &mut [u8]) -> Written
         ensures { (result, out.new) ≡ normalise bio_read p.now out.old }
     {
