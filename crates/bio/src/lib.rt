@@ -87,6 +87,7 @@ impl BioMatchR {
         require_exact_len(p, Self::WIRE_LEN, Self::CODE)
     }
 
+    #[tactic(auto, using(payload_util::proofs::Guards::exact_pass))]
     pub fn decode(p: &[u8]) -> BioMatchRRead
         ensures { bio_match_r_outcome result ≡ read bio_match_r p.now }
     {

@@ -1,21 +1,17 @@
 -- The biometric head, a head with a template under any code, and the laws of BIOREAD and BIOMATCH.
 -- Assumes nothing.
-use mathlib.Core.Path.{◌≡◌, refl, sym, ap, ◌∙◌}
+use mathlib.Core.Path.{◌≡◌, refl, ap, ◌∙◌}
 use mathlib.Core.List.{List, [], ◌∷◌, ◌++◌}
 use Prim.Native.Nat.{ℕ, ◌≤◌}
 use native.Mathlib.Nat.{mod-add-div}
 use native.Mathlib.Omega.{arith}
 use lib.ListN.{length, drop}
 use Rattle.payload_util.specs.Bytes.{Bytes, byte_at, u16_at, u16_bytes}
-use Rattle.payload_util.specs.Loss.{keep, only_at, without, within_limits}
+use Rattle.payload_util.specs.Loss.{keep, without, within_limits}
 use Rattle.payload_util.specs.Guards.{exact_len, at_least, declared_len, at_most}
 use Rattle.payload_util.specs.Refusals.{◌also◌, in_order}
-use Rattle.payload_util.specs.Outcome.{gives, refuses, outcome}
-use Rattle.payload_util.specs.Form.{read}
-use Rattle.payload_util.specs.declared.Refusal.{Refusal}
-use Rattle.payload_util.specs.declared.Guard.{Guard}
-use Rattle.payload_util.specs.declared.Guard.TheVariants.{Pass, Refused}
-use Rattle.payload_util.proofs.Guards.{exact_pass, head_and_tail_pass, pass_head_and_tail, gives_pass}
+use Rattle.payload_util.specs.declared.Guard.TheVariants.{Pass}
+use Rattle.payload_util.proofs.Guards.{exact_pass, head_and_tail_pass, pass_head_and_tail}
 use Rattle.payload_util.proofs.InOrder.{also_none}
 use Rattle.payload_util.proofs.Limits.{limit_at, by_limits}
 use Rattle.payload_util.proofs.Words.{fits_word, low_byte, high_byte}
@@ -24,31 +20,17 @@ use Rattle.payload_util.proofs.Losses.{length_keep}
 use Rattle.payload_util.proofs.Scheme.{Law}
 use Rattle.payload_util.proofs.Forms.{fixed_law, tailed_law}
 use Rattle.biometric.specs.declared.BioHead.{BioHead}
-use Rattle.biometric.specs.declared.BioHeadRead.{BioHeadRead}
-use Rattle.biometric.specs.declared.BioHeadRead.TheVariants.{Read, Refused as RefusedHead}
-use Rattle.biometric.specs.Biometric.{highest_type, highest_format, head_of, head_outcome, head_bytes, bio_limits, bio_loss, check_template, templated, headed}
+use Rattle.biometric.specs.Biometric.{highest_type, highest_format, head_of, head_bytes, bio_limits, bio_loss, check_template, templated}
 use Rattle.biometric.specs.Biometric.{bio_read, bio_match}
 use Rattle.biometric.proofs.Codes.{bio_type_back, bio_format_back, bio_type_kept, bio_format_kept}
-
--- a refusal is given only if a check refuses
-refuses_refused : {A : Type 0} (g : Guard) (a : A) (e : Refusal) → outcome g a ≡ refuses e → g ≡ Refused e
-refuses_refused Pass a e h = cc
-refuses_refused (Refused r) a e h = cc
 
 -- ---- the head
 
 -- it has two limits: type and format
 pub head_limits : (number code : ℕ) (p : List ℕ)
-    → (limit_at number code highest_type p 1 also limit_at number code highest_format p 2) ≡ within_limits number code bio_loss p
+    → within_limits number code bio_loss p ≡ (limit_at number code highest_type p 1 also limit_at number code highest_format p 2)
 unfolding in_order
-head_limits number code p = sym (by_limits number code bio_loss p 3 (omega arith) ∙ simp also_none)
-
--- they are folded one after the other
-pub head_folded : (p : List ℕ) → keep (only_at 2 highest_format) (keep (only_at 1 highest_type) p) ≡ keep bio_limits p
-head_folded [] = refl
-head_folded (a ∷ []) = refl
-head_folded (a ∷ b ∷ []) = refl
-head_folded (a ∷ b ∷ d ∷ p) = refl
+head_limits number code p = by_limits number code bio_loss p 3 (omega arith) ∙ simp also_none
 
 -- the head, written again in front of the rest of the payload, gives the payload without what is lost
 pub head_kept : (p : List ℕ) → Bytes p → 4 ≤ length p → head_bytes (head_of p) ++ drop 4 p ≡ without bio_loss p
@@ -111,13 +93,3 @@ module _ {A : Type 0} (wrap : BioHead → A) (head : A → BioHead) (there : (h 
 
 pub bio_match_law : Law bio_match
 bio_match_law = template_law (λ h. record { head = h }) (λ m. m.head) (λ h. refl) (λ m. refl) _
-
--- The reader of such a record: x is what reading the head gave; a head is wrapped, and a refusal is handed on.
-module _ {A : Type 0} (wrap : BioHead → A) (code : ℕ) (p : List ℕ) {x : BioHeadRead} (is : head_outcome x ≡ read (headed code) p) where
-  pub wrapped : {h : BioHead} → x ≡ Read h → gives (wrap h) ≡ outcome (check_template code p) (wrap (head_of p))
-  wrapped {h} e =
-      let (pass, same) = gives_pass (check_template code p) (head_of p) h (sym is ∙ ap head_outcome e) in
-      simp (pass, same)
-
-  pub handed_on : {r : Refusal} → x ≡ RefusedHead r → refuses r ≡ outcome (check_template code p) (wrap (head_of p))
-  handed_on {r} e = simp (refuses_refused (check_template code p) (head_of p) r (sym is ∙ ap head_outcome e))

@@ -196,6 +196,7 @@ impl BioHead {
     }
 
     // Row 17 for the first of type and format that reading would fold.
+    #[tactic(auto, using(crate::proofs::Laws::head_limits))]
     pub fn within_limits(p: &[u8], code: u8) -> Guard
         ensures { result ≡ within_limits 17 code bio_loss p.now }
     {

@@ -6,4 +6,6 @@ use Rattle.biometric.proofs.Laws.{bio_read_law}
 use Rattle.biometric.proofs.BioRead.normalise.Goals as goal
 
 pub returns : goal.returns
-returns c = normalises bio_read bio_read_law c.args.p.now c.args.out.now _ _ (λ i. omega (arith, c.type_inv.p i)) c.put_folded.ensures c.check.ensures refl
+returns c =
+    normalises bio_read bio_read_law c.args.p.now c.args.out.now _ _
+    (λ i. omega (arith, c.type_inv.p i)) c.put_folded.ensures c.check.ensures refl
