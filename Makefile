@@ -1,7 +1,7 @@
 # make alone prints what there is. Everything that is made goes to build/ and target/, which git ignores.
 LIB := target/staticlib/libosdp.a
 READERS := target/staticlib/libbench_read.a
-TEXTS := target/printable/target/staticlib/libtext.a
+TEXTS := target/staticlib/libtext.a
 # quick ones first
 CHECKS := proof-map lib-selftest inputs names lib example compare mutants bench-selftest bench
 
@@ -10,7 +10,7 @@ help:
 	@echo "make run          proves and builds inspect, and shows the sample payloads with it"
 	@echo "make inputs       inspect on bad lines, bad files, every code, the longest payloads, and many lines"
 	@echo "make test         the gate: proves every crate from nothing, tries the must-fail edits, runs the programs (.ci/run)"
-	@echo "make lib          proves osdp and writes $(LIB); the header is include/osdp.h; holds its stack, outside symbols and writable data to limits"
+	@echo "make lib          proves osdp_c and writes $(LIB); the header is include/osdp.h; holds its stack, outside symbols and writable data to limits"
 	@echo "  lib-selftest      whether that last check can fail"
 	@echo "make example      builds and runs examples/c with gcc, and with clang if there is one"
 	@echo "make compare      against the original Rust: compare-vectors, then compare-calls"
@@ -53,14 +53,14 @@ arguments:
 oracle: arguments
 	tools/oracle/build.sh "$$RUST"
 
-# rt check proves inspect and what it uses, builds it, and compares what it says of its sample with the stored output.
+# program.sh proves inspect and what it uses, builds it, and compares what it says of its sample with the stored output.
 run:
-	rt check inspect
+	tools/program.sh inspect
 	tools/inspect/run.sh
 
 inputs:
-	rt check inspect
-	tools/inspect/inputs.py target/bin/inspect
+	tools/program.sh inspect
+	tools/inspect/inputs.py crates/inspect/out/inspect
 
 lib: $(LIB)
 	tools/lib/check.py $(LIB)
@@ -68,12 +68,19 @@ lib: $(LIB)
 lib-selftest:
 	tools/lib/check.py --selftest
 
-$(LIB) $(READERS): target/staticlib/lib%.a: crates.txt $(shell find crates -name '*.rt' -o -name '*.antt')
-	rt staticlib $*
+# What rt reads: the crates without their folders out/.
+SOURCES = crates.txt $(shell find $(1) -name out -prune -o \( -name '*.rt' -o -name '*.antt' \) -print)
+
+$(LIB): $(call SOURCES,crates)
+	tools/archive.sh osdp_c $@
 	@touch $@
 
-$(TEXTS): crates.txt tools/bench/printable.sh $(shell find crates/payload_util crates/text -name '*.rt' -o -name '*.antt')
-	tools/bench/printable.sh
+$(READERS): $(call SOURCES,crates)
+	tools/archive.sh bench_read $@
+	@touch $@
+
+$(TEXTS): tools/bench/printable.sh $(call SOURCES,crates/payload_util crates/text)
+	tools/bench/printable.sh $@
 	@touch $@
 
 example: $(LIB)
@@ -86,7 +93,7 @@ compare: compare-vectors compare-calls
 	@echo "both runs passed: $$(cat build/oracle/done); $$(tail -n 1 build/compare/said)"
 
 compare-vectors: oracle
-	rt check vectors
+	tools/program.sh vectors
 	tools/oracle/compare.sh "$$RUST" "$$SCALE" "$$SEED"
 
 compare-calls: oracle $(LIB)
@@ -109,7 +116,7 @@ proof-map:
 	tools/proof_map.py --selftest
 
 names: oracle
-	rt check inspect
+	tools/program.sh inspect
 	tools/names.py --selftest "$$RUST"
 	tools/names.py "$$RUST"
 

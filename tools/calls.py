@@ -1,10 +1,10 @@
 #!/usr/bin/env python3
 """The public calls of the library, and which of them a run reaches, as far as the text shows: calls.py
 
-The library is the crates of crates.txt from the first to osdp. A run reaches a call if main of vectors or of inspect does, directly or through
-other calls, or one of the calls for C, which the comparison makes. A call is `Type::name(`, `module::name(` or `name(`, taken apart by the uses of
-its file. `.name(` counts for the types that the calling function names or that its calls give, and those that these hold, unless there are more such
-types than places where the method is called: what is doubtful counts as not reached.
+The library is the crates of crates.txt from the first to osdp_c. A run reaches a call if main of vectors or of inspect does, directly or through
+other calls, or one of the calls for C of osdp_c, which the comparison makes. A call is `Type::name(`, `module::name(` or `name(`, taken apart by the
+uses of its file. `.name(` counts for the types that the calling function names or that its calls give, and those that these hold, unless there are
+more such types than places where the method is called: what is doubtful counts as not reached.
 Prints the calls that no run reaches, and those that nobody calls.
 """
 import re
@@ -13,10 +13,10 @@ from pathlib import Path
 
 top = Path(__file__).resolve().parent.parent
 PROGRAMS = ("vectors::main", "inspect::main")
-LAST = "osdp"
+LAST = "osdp_c"
 HIDDEN = re.compile(r"//[^\n]*|b?\"(?:\\.|[^\"\\])*\"|b?'(?:\\.|[^'\\])'", re.S)  # comments, strings, characters
 FUNCTION = re.compile(r"^( *)(pub(?:\(crate\))? )?(extern +)?fn (\w+)", re.M)
-USE = re.compile(r"^(?:pub )?use ((?:\w+::)*)(\w+);", re.M)
+USE = re.compile(r"^(?:pub )?use ([^;]*);", re.M)
 STRUCT = re.compile(r"^(?:pub(?:\(crate\))? )?(?:struct|enum) (\w+)[^{;]*\{(.*?)^\}", re.M | re.S)
 TYPE = r"\b[A-Z]\w*\b"
 
@@ -36,13 +36,24 @@ class Function:
 
 def without_contracts(text):
     """A file without what stands in the braces of requires and ensures."""
-    while found := re.search(r"\b(?:requires|ensures) \{", text):
+    while found := re.search(r"\b(?:requires|ensures)\*?(?: \w+)? \{", text):
         depth, at = 1, found.end()
         while depth:
             depth += {"{": 1, "}": -1}.get(text[at], 0)
             at += 1
         text = text[:found.start()] + text[at:]
     return text
+
+
+def imported(item, before=""):
+    """(name, path) of each name that a use item brings: `a::b`, `a::b as c`, or `a::{b, c::{self, d}}`"""
+    item = item.strip()
+    if found := re.fullmatch(r"((?:\w+::)*)\{(.*)\}", item, re.S):
+        for part in re.findall(r"(?:[^,{}]|\{(?:[^{}]|\{[^{}]*\})*\})+", found[2]):
+            yield from imported(part, before + found[1])
+    elif found := re.fullmatch(r"((?:\w+::)*\w+)(?: as (\w+))?", item):
+        path = (before + found[1]).removesuffix("::self")
+        yield found[2] or path.split("::")[-1], path
 
 
 def place_of(path):
@@ -70,7 +81,7 @@ def functions_of(place, text):
 class Calls:
     def __init__(self, files):
         hidden = {place: without_contracts(HIDDEN.sub(" ", text)) for place, text in files.items()}
-        self.uses = {place: {m[2]: m[1] + m[2] for m in USE.finditer(text)} for place, text in hidden.items()}
+        self.uses = {place: dict(pair for item in USE.findall(text) for pair in imported(item)) for place, text in hidden.items()}
         structs = [(place, m) for place, text in hidden.items() for m in STRUCT.finditer(text)]
         self.held = {f"{place}::{m[1]}": (place, re.findall(r"[:(] *([A-Z]\w*)", m[2])) for place, m in structs}
         self.functions = {f.path: f for place, text in hidden.items() for f in functions_of(place, text)}
@@ -117,7 +128,7 @@ class Calls:
 
 def library():
     """The names of the library's crates."""
-    names = re.findall(r"^(\w+):", (top / "crates.txt").read_text(encoding="utf-8"), re.M)
+    names = re.findall(r"^(\w+)[^#:\n]*:", (top / "crates.txt").read_text(encoding="utf-8"), re.M)
     return names[:names.index(LAST) + 1]
 
 

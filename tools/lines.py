@@ -1,22 +1,45 @@
 #!/usr/bin/env python3
-"""Counts each crate's lines of code, definitions and proofs, with the seconds of its check where a log of `.ci/run` is given.
+"""Counts each crate's lines of code, definitions and proofs, and with --seconds also proves each, and gives the seconds of its `rt check`.
 
-usage: lines.py [LOG]
+usage: lines.py [--seconds]
+
+With --seconds the crates are copied to a temporary folder and proved there from nothing, one after the other, in the order of crates.txt. It stops at
+the first that is not proved.
 """
 import re
+import shutil
+import subprocess
 import sys
+import tempfile
+import time
 from pathlib import Path
 
 top = Path(__file__).resolve().parent.parent
-log = Path(sys.argv[1]).read_text(encoding="utf-8") if len(sys.argv) > 1 else ""
-seconds = dict(re.findall(r"^rt: (\w+) proved \((\d+) s\)", log, re.M))
-order = re.findall(r"^(\w+):", (top / "crates.txt").read_text(encoding="utf-8"), re.M)
+order = re.findall(r"^(\w+)[^#:\n]*:", (top / "crates.txt").read_text(encoding="utf-8"), re.M)
 
 
 def lines(folder, ending):
     return sum(len(p.read_text(encoding="utf-8").splitlines()) for p in folder.rglob("*" + ending))
 
 
+def proved():
+    """{crate: seconds}"""
+    found = {}
+    with tempfile.TemporaryDirectory() as copy:
+        shutil.copytree(top / "crates", f"{copy}/crates", ignore=shutil.ignore_patterns("out", "must-fail"))
+        shutil.copy(top / "crates.txt", copy)
+        for name in order:
+            start = time.monotonic()
+            ran = subprocess.run(["rt", "check"], cwd=f"{copy}/crates/{name}", stdout=subprocess.PIPE, stderr=subprocess.STDOUT, text=True)
+            if ran.returncode:
+                sys.exit(f"{ran.stdout}lines.py: {name} is not proved")
+            found[name] = round(time.monotonic() - start)
+    return found
+
+
+if sys.argv[1:] not in ([], ["--seconds"]):
+    sys.exit(__doc__)
+seconds = proved() if sys.argv[1:] else {}
 print("| Crate | Code | Definitions | Proofs | Must-fail edits | Check, s |\n|---|---|---|---|---|---|")
 total = [0] * 4
 for name in order:
@@ -25,4 +48,4 @@ for name in order:
            len(list(crate.glob("must-fail/*.edit")))]
     total = [a + b for a, b in zip(total, row)]
     print(f"| {name} | " + " | ".join(map(str, row)) + f" | {seconds.get(name, '')} |")
-print("| all | " + " | ".join(map(str, total)) + " | |")
+print("| all | " + " | ".join(map(str, total)) + f" | {sum(seconds.values()) or ''} |")

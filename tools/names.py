@@ -6,9 +6,9 @@ usage: names.py [--program PROGRAM] [--selftest] [SOURCES]
 Proofs, and the comparison with the Rust, go from byte to code to byte. Neither notices two names exchanged in a definition and its code together.
 This compares names and bytes with the original Rust in SOURCES (by default ../shared/docs/src beside the repository). Of each of eight enums:
 the definition that the contracts of from_byte and as_byte name, with its answer to other bytes; its list of codes and the enum, both in the
-Rust's order; every arm of from_byte and as_byte; and the names that PROGRAM (by default target/bin/inspect) shows. Of each kind: its CODE, its row
-of kinds.txt, and its place in the lists of osdp.h and README.md. Prints a line for each difference and exits with 1 if there is any. To find nothing
-in a place is a difference.
+Rust's order; every arm of from_byte and as_byte; and the names that PROGRAM (by default crates/inspect/out/inspect) shows. Of each kind: its CODE,
+its row of kinds.txt, and its place in the lists of osdp.h and README.md. Prints a line for each difference and exits with 1 if there is any. To find
+nothing in a place is a difference.
 
 --selftest exchanges two names or numbers in copies of the files, or in what PROGRAM says, and exits with 1 if one exchange is not noticed.
 """
@@ -90,14 +90,25 @@ def original(path, enum):
     return [(name, byte) for byte, name in names.items()], other
 
 
+def paths(item, before=""):
+    """Each path of a use line of a definitions file, with its `as NAME` if it has one: `A.b`, or `A.{b, C.{d, e as f}}`."""
+    item = " ".join(item.split())
+    if found := re.fullmatch(r"([^{}]*\.)\{(.*)\}", item):
+        for part in re.findall(r"(?:[^,{}]|\{(?:[^{}]|\{[^{}]*\})*\})+", found[2]):
+            yield from paths(part, before + found[1])
+    elif item:
+        yield before + item
+
+
 def definition(crate, text, enum):
     """The table with its answer to other bytes, and the list of codes; the contracts of from_byte and as_byte name the definition."""
-    reader, table = (re.search(rf"≡ (\w+) {of} ⌝", function(text, enum, name)) for name, of in (("from_byte", "b"), ("as_byte", "self")))
+    reader, table = (re.search(rf"≡ (\w+) {of}\s*\}}", function(text, enum, name)) for name, of in (("from_byte", "b"), ("as_byte", "self")))
     for spec in map(source, sorted(crate.glob("specs/**/*.antt"))) if reader and table else []:
         named = re.search(rf"^{reader[1]} b = named {table[1]} (?:gives \(refuses .*\)|\(λ c\. c\) (\w+)) (\w+) b$", spec, re.M)
         if named:
-            imported = ",".join(re.findall(rf"^use \S+\.declared\.{enum}\.the-variants\.\{{(.*)\}}", spec, re.M))
-            variant = {name.split()[-1]: name.split()[0] for name in imported.split(",") if name.strip()}
+            imported = [path for item in re.findall(r"^use (\S[^\n]*(?:\n[ \t}][^\n]*)*)", spec, re.M) for path in paths(item)]
+            variants_of = (path.partition(f".declared.{enum}.TheVariants.")[2].split() for path in imported)
+            variant = {name[-1]: name[0] for name in variants_of if name}
             name = lambda word: variant.get(word.strip(), f"'{word.strip()}'")
             clauses = [(name(word), plain(byte, enum)) for word, byte in re.findall(rf"^{table[1]} (.+?) = (.+)$", spec, re.M)]
             codes = re.findall(rf"^{named[2]} =(.*?)∷\s*\[\]", spec, re.M | re.S)
@@ -231,7 +242,7 @@ def selftest(root, rust, inspect):
 
 def main():
     parser = argparse.ArgumentParser(usage=__doc__.split("usage: ")[1])
-    parser.add_argument("--program", default=top / "target/bin/inspect", type=Path, help=argparse.SUPPRESS)
+    parser.add_argument("--program", default=top / "crates/inspect/out/inspect", type=Path, help=argparse.SUPPRESS)
     parser.add_argument("--selftest", action="store_true", help=argparse.SUPPRESS)
     parser.add_argument("sources", nargs="?", help=argparse.SUPPRESS)
     options = parser.parse_args()

@@ -1,7 +1,7 @@
 #!/usr/bin/env python3
 """Checks docs/PROOF-MAP.md, and with --selftest also whether that would notice what is wrong: proof_map.py [--selftest]
 
-Names stand in backquotes, and exist: `led::LedRecord::decode` is a function, `led.readLed` a definition or a theorem, `led!colours_swapped` a
+Names stand in backquotes, and exist: `led::LedRecord::decode` is a function, `led.led_law` a definition or a theorem, `led!colours_swapped` a
 must-fail edit, and whatever has a `/` a file. Other backquoted text, such as a payload, has a space or a digit first.
 The last four cells of a row say where something is defined, proved, run and guarded. Each names something of its sort, or begins with "no", what
 there is not, a colon and the reason. What something is run by is a list of programs, targets of make and files, then, after a colon, words about
@@ -203,7 +203,7 @@ def wrong_maps(text):
     yield with_cell(text, "R4.1", 5, ""), r"\d+: an empty cell"
     yield with_cell(text, "R4.1", 1, "`led!colours_swapped` | more"), r"\d+: 7 cells under a head of 6"
     yield text + "\n| Item | Run by |\n|---|---|\n| R4.1 | vectors |\n", r"\d+: a table that is not known"
-    for name in ("led::LedRecord::check", "led.led-law", "led!colours_swapped"):
+    for name in ("led::LedRecord::check", "led.led_law", "led!colours_swapped"):
         yield text.replace(f"`{name}`", name, 1), rf"\d+: without backquotes: {name}"
     for name in ("led::LedRecord::invented", "led.invented", "led!invented", "docs/INVENTED.md", "invented"):
         yield with_cell(text, "R4.1", 1, f"`led!colours_swapped`, `{name}`"), rf"\d+: no .* {name}"

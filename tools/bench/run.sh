@@ -11,7 +11,7 @@ root=$(cd "$here/../.." && pwd -P)
 [[ ${ALONE-} == "$root"/* ]] || exec "$root/tools/alone.py" "$0" "$@"
 lib=$root/target/staticlib/libosdp.a
 readers=$root/target/staticlib/libbench_read.a
-texts=$root/target/printable/target/staticlib/libtext.a
+texts=$root/target/staticlib/libtext.a
 out=$root/build/bench
 docs=
 beside=

@@ -98,7 +98,7 @@ def bad_lines():
 
 def help_text():
     """what inspect prints, by its source"""
-    literal = re.search(r'b"(usage: .*?)"', (top / "crates/inspect/src/main.rt").read_text(encoding="utf-8"), re.S)[1]
+    literal = re.search(r'"(usage: .*?)"', (top / "crates/inspect/src/main.rt").read_text(encoding="utf-8"), re.S)[1]
     return re.sub(r"\\\n\s*", "", literal).replace("\\n", "\n")
 
 

@@ -5,7 +5,7 @@ set -euo pipefail
 root=$(cd "$(dirname "$0")/../.." && pwd -P)
 sample=$root/crates/inspect
 mkdir -p "$root/build"
-"$root/target/bin/inspect" "$sample/stdin" | tee "$root/build/inspected"
+"$root/crates/inspect/out/inspect" "$sample/stdin" | tee "$root/build/inspected"
 diff "$sample/stdout" "$root/build/inspected"
 python3 - "$root/README.md" "$sample/stdout" <<'P'
 import re, sys

@@ -1,9 +1,9 @@
 #!/usr/bin/env bash
 # Compares the library with the answers of the original Rust and of the model, at scale: compare.sh [SOURCES [SCALE [SEED]]]
-# Cases are made, answered and packed here, and replayed by the program vectors, which `rt check vectors` builds: first those of gen.py, then 5,000
-# frames by chance for each 1 of SCALE. Fails if an answer differs, a row or a difference of kinds.txt never occurred, or a kind, or a frame with each
-# check, was never read or written; if a program ends with another status than 0 or says anything else than it has to; and if the oracle or vectors
-# had another number of cases than were made.
+# Cases are made, answered and packed here, and replayed by the program vectors, which `tools/program.sh vectors` builds: first those of gen.py, then
+# 5,000 frames by chance for each 1 of SCALE. Fails if an answer differs, a row or a difference of kinds.txt never occurred, or a kind, or a frame with
+# each check, was never read or written; if a program ends with another status than 0 or says anything else than it has to; and if the oracle or
+# vectors had another number of cases than were made.
 set -euo pipefail
 . "$(dirname "$0")/steps.sh"
 scale=${2:-1000}
@@ -28,7 +28,7 @@ mkfifo "$out/lines"
 wc -l <"$out/lines" >"$out/made" &
 ended=(0 0 0 0)
 {
-    python3 "$here/gen.py" "$scale" "$seed" | tee "$out/lines" | "$out/oracle" pack | "$root/target/bin/vectors" >"$out/compared" ||
+    python3 "$here/gen.py" "$scale" "$seed" | tee "$out/lines" | "$out/oracle" pack | "$root/crates/vectors/out/vectors" >"$out/compared" ||
         ended=("${PIPESTATUS[@]}")
 } 2>"$out/said"
 wait $!
@@ -42,7 +42,7 @@ start=$SECONDS
 made=$((5000 * scale))
 ended=(0 0)
 {
-    "$out/oracle" frames "$made" "$seed" | "$root/target/bin/vectors" >"$out/compared" || ended=("${PIPESTATUS[@]}")
+    "$out/oracle" frames "$made" "$seed" | "$root/crates/vectors/out/vectors" >"$out/compared" || ended=("${PIPESTATUS[@]}")
 } 2>"$out/said"
 passed "$made" 0 "oracle and vectors" "${ended[@]}"
 frames="$made frames (scale $scale, seed $seed), made, answered and replayed in $((SECONDS - start)) s: 0 differ"
