@@ -1,4 +1,4 @@
-# make alone prints what there is. Everything that is made goes to build/ and target/, which git ignores.
+# make alone prints what there is. What is made goes to build/, to target/ and to each crate's out/, which git ignores.
 LIB := target/staticlib/libosdp.a
 READERS := target/staticlib/libbench_read.a
 TEXTS := target/staticlib/libtext.a
@@ -9,7 +9,7 @@ CHECKS := proof-map lib-selftest inputs names lib example compare mutants bench-
 help:
 	@echo "make run          proves and builds inspect, and shows the sample payloads with it"
 	@echo "make inputs       inspect on bad lines, bad files, every code, the longest payloads, and many lines"
-	@echo "make test         the gate: proves every crate from nothing, tries the must-fail edits, runs the programs (.ci/run)"
+	@echo "make test         the gate: proves every crate, tries the must-fail edits, runs the programs (.ci/run)"
 	@echo "make lib          proves osdp_c and writes $(LIB); the header is include/osdp.h; holds its stack, outside symbols and writable data to limits"
 	@echo "  lib-selftest      whether that last check can fail"
 	@echo "make example      builds and runs examples/c with gcc, and with clang if there is one"
