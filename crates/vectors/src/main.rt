@@ -9,6 +9,8 @@ ghost use Rattle.std.specs.Prelude.{◌-◌, ◌≤◌};
 
 use crate::stream::Taken;
 use crate::tally::Tally;
+use std::io;
+use std::io::Read;
 use vectors_case::Case;
 
 // The class of the record that ends a stream, whose argument is the number of cases before it.
@@ -18,42 +20,63 @@ const END: u8 = 255;
 const MORE: usize = 256;
 
 // Runs a case whose input and output are in the space.
-fn whole(t: Tally, c: Case, space: &[u8], out: &mut [u8]) -> Tally {
+fn whole(
+    rt: &impl Print,
+    t: Tally,
+    c: Case,
+    space: &[u8],
+    out: &mut [u8],
+) -> io::Result<Tally> {
     let at = stream::BLOCKS;
     let mid = c.mid;
     let end = c.end;
     if mid < at {
-        return t.unfit();
+        return t.unfit(rt);
     }
     if end < mid {
-        return t.unfit();
+        return t.unfit(rt);
     }
     if space.len() < end {
-        return t.unfit();
+        return t.unfit(rt);
     }
     let n = end - at + MORE;
     if out.len() < n {
-        return t.unfit();
+        return t.unfit(rt);
     }
     let is_same = case::run(c, &space[at..mid], &space[mid..end], &mut out[0..n]);
-    t.after(c, is_same)
+    t.after(rt, c, is_same)
 }
 
 // One case, one read, or the end.
-fn turn(t: Tally, space: &mut [u8], out: &mut [u8]) -> Tally {
+fn turn<R: Read>(
+    rt: &impl Print,
+    input: &mut R,
+    t: Tally,
+    space: &mut [u8],
+    out: &mut [u8],
+) -> io::Result<Tally> {
     match stream::take(&mut *space, t.from, t.to) {
-        Taken::Case(c) => by_class(t, c, space, out),
-        Taken::Short => t.refilled(stream::refill(space, t.from, t.to)),
-        Taken::Unfit => t.unfit(),
+        Taken::Case(c) => by_class(rt, t, c, space, out),
+        Taken::Short => {
+            let unread = stream::refill(input, space, t.from, t.to)?;
+            t.refilled(rt, unread)
+        }
+        Taken::Unfit => t.unfit(rt),
     }
 }
 
-fn by_class(t: Tally, c: Case, space: &[u8], out: &mut [u8]) -> Tally {
+fn by_class(
+    rt: &impl Print,
+    t: Tally,
+    c: Case,
+    space: &[u8],
+    out: &mut [u8],
+) -> io::Result<Tally> {
     let class = c.class;
     match class {
-        0..=case::LAST => whole(t, c, space, out),
-        END => t.ended(c),
-        _ => t.unknown(class),
+        0..=case::LAST => whole(rt, t, c, space, out),
+        END => t.ended(rt, c),
+        _ => t.unknown(rt, class),
     }
 }
 
@@ -68,18 +91,24 @@ fn left(turns: u64, is_done: bool) -> u64
 }
 
 // Takes turns until the stream is done. There are more turns than any stream needs.
-fn all(space: &mut [u8], out: &mut [u8]) -> Tally {
+fn all<R: Read>(
+    rt: &impl Print,
+    input: &mut R,
+    space: &mut [u8],
+    out: &mut [u8],
+) -> io::Result<Tally> {
     let mut t = Tally::new();
     let mut turns = u64::MAX;
     while turns > 0 {
-        t = turn(t, &mut *space, &mut *out);
+        t = turn(rt, input, t, &mut *space, &mut *out)?;
         turns = left(turns, t.is_done);
     }
-    t
+    Ok(t)
 }
 
-fn main() {
+fn main(rt: HostRuntime) -> io::Result<()> {
+    let mut input = rt.stdin();
     let mut space = [0u8; 393728];
     let mut out = [0u8; 131840];
-    all(&mut space, &mut out).print();
+    all(&rt, &mut input, &mut space, &mut out)?.print(&rt)
 }

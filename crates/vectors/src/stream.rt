@@ -1,6 +1,8 @@
 // The stream of cases. One space holds the bytes that were read, up to BLOCKS, and after them the input and the output of a case.
 ghost use Rattle.std.specs.Prelude.{◌≤◌, length};
 
+use std::io;
+use std::io::Read;
 use vectors_case::{Case, put, u32_at};
 
 pub const BLOCKS: usize = 262144;
@@ -163,20 +165,25 @@ fn move_bytes(space: &mut [u8], from: usize, to: usize, n: usize) -> bool {
 }
 
 // Moves the unread bytes, which are between two indices, to the front, reads once behind them, and returns how many are unread.
-pub fn refill(space: &mut [u8], from: usize, to: usize) -> usize {
+pub fn refill<R: Read>(
+    input: &mut R,
+    space: &mut [u8],
+    from: usize,
+    to: usize,
+) -> io::Result<usize> {
     if to < from {
-        return 0;
+        return Ok(0);
     }
     let n = to - from;
     if !move_bytes(&mut *space, from, 0, n) {
-        return 0;
+        return Ok(0);
     }
     if BLOCKS <= n {
-        return n;
+        return Ok(n);
     }
     if space.len() < BLOCKS {
-        return n;
+        return Ok(n);
     }
-    let got = libc::read(libc::STDIN_FILENO, &mut space[n..BLOCKS]);
-    n + io::count(got, &space[n..BLOCKS])
+    let got = input.read(&mut space[n..BLOCKS])?;
+    Ok(n + got)
 }

@@ -1,5 +1,5 @@
 // How many cases there were and how many differ, and the position in the stream.
-use std::num::{wrapping_add_u64, wrapping_add_usize};
+use std::io;
 use vectors_case::Case;
 
 // How many of the cases that differ are named.
@@ -32,81 +32,78 @@ impl Tally {
     }
 
     // Says what is wrong with the case after those that were run, and stops there.
-    pub fn broken(mut self, why: &[u8]) -> Tally {
-        io::write_all(1, b"broken at case ");
-        say(wrapping_add_u64(self.cases, 1), b": ");
-        io::write_all(1, why);
+    pub fn broken(mut self, rt: &impl Print, why: &str) -> io::Result<Tally> {
+        rt.print("broken at case ")?;
+        say(rt, self.cases.wrapping_add(1), ": ")?;
+        rt.print(why)?;
         self.is_done = true;
         self.is_broken = true;
-        self
+        Ok(self)
     }
 
-    pub fn unfit(self) -> Tally {
-        self.broken(b"it does not fit\n")
+    pub fn unfit(self, rt: &impl Print) -> io::Result<Tally> {
+        self.broken(rt, "it does not fit\n")
     }
 
-    pub fn unknown(self, class: u8) -> Tally {
-        let t = self.broken(b"class ");
-        say(class as u64, b" is unknown\n");
-        t
+    pub fn unknown(self, rt: &impl Print, class: u8) -> io::Result<Tally> {
+        let t = self.broken(rt, "class ")?;
+        say(rt, u64::from(class), " is unknown\n")?;
+        Ok(t)
     }
 
     // After a read: the unread bytes are at the front of the buffer. If none came, the stream is at its end.
-    pub fn refilled(mut self, unread: usize) -> Tally {
+    pub fn refilled(mut self, rt: &impl Print, unread: usize) -> io::Result<Tally> {
         let is_end = self.from <= self.to && self.to - self.from == unread;
         self.from = 0;
         self.to = unread;
         self.is_done = is_end;
         if is_end && (0 < unread || 0 < self.since) {
-            return self.broken(b"the stream ends before it, or in it\n");
+            return self.broken(rt, "the stream ends before it, or in it\n");
         }
-        self
+        Ok(self)
     }
 
     // After a record that ends a stream.
-    pub fn ended(mut self, c: Case) -> Tally {
+    pub fn ended(mut self, rt: &impl Print, c: Case) -> io::Result<Tally> {
         if self.since != c.argument {
-            return self.broken(b"the stream ends, and had another number of cases\n");
+            return self.broken(rt, "the stream ends, and had another number of cases\n");
         }
-        self.from = wrapping_add_usize(self.from, c.size);
+        self.from = self.from.wrapping_add(c.size);
         self.since = 0;
-        self
+        Ok(self)
     }
 
     // After one more case.
-    pub fn after(mut self, c: Case, is_same: bool) -> Tally {
-        self.from = wrapping_add_usize(self.from, c.size);
-        self.cases = wrapping_add_u64(self.cases, 1);
-        self.since = wrapping_add_usize(self.since, 1);
+    pub fn after(mut self, rt: &impl Print, c: Case, is_same: bool) -> io::Result<Tally> {
+        self.from = self.from.wrapping_add(c.size);
+        self.cases = self.cases.wrapping_add(1);
+        self.since = self.since.wrapping_add(1);
         if !is_same {
-            self.differ = wrapping_add_u64(self.differ, 1);
+            self.differ = self.differ.wrapping_add(1);
             if self.differ <= NAMED {
-                name(self.cases, c);
+                name(rt, self.cases, c)?;
             }
         }
-        self
+        Ok(self)
     }
 
     // A broken stream has no total.
-    pub fn print(self) {
+    pub fn print(self, rt: &impl Print) -> io::Result<()> {
         if self.is_broken {
-            return;
+            return Ok(());
         }
-        say(self.cases, b" cases, ");
-        say(self.differ, b" differ\n");
+        say(rt, self.cases, " cases, ")?;
+        say(rt, self.differ, " differ\n")
     }
 }
 
-fn say(n: u64, what: &[u8]) {
-    io::print_decimal(1, n);
-    io::write_all(1, what);
+fn say(rt: &impl Print, n: u64, what: &str) -> io::Result<()> {
+    print!(rt; "{n}{what}")
 }
 
 // Names a case that differs.
-fn name(number: u64, c: Case) {
-    io::write_all(1, b"case ");
-    say(number, b" differs: class ");
-    say(c.class as u64, b", code 0x");
-    io::print_hex(1, c.code as u64, 2);
-    io::write_all(1, b"\n");
+fn name(rt: &impl Print, number: u64, c: Case) -> io::Result<()> {
+    let class = c.class;
+    let code = c.code;
+    println!(rt; "case {number} differs: class {class}, code 0x{code:02x}")
 }

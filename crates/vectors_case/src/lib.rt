@@ -58,7 +58,7 @@ pub const LED_BYTES: usize = 14;
 
 pub const OUT_BYTES: usize = 4;
 
-#[derive(Drop)]
+#[derive(Clone, Copy)]
 pub struct Case {
     pub class: u8,
     pub code: u8,
@@ -207,7 +207,7 @@ pub fn holds(out: &[u8], at: usize, want: &[u8], fill: u8) -> bool
         return false;
     }
     let end = at + n;
-    if !check::same(&out[at..end], want) {
+    if &out[at..end] != want {
         return false;
     }
     if !filled(&out[0..at], 0, fill) {

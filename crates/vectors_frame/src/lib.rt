@@ -50,8 +50,7 @@ fn record(f: &[u8], code: u8) -> Frame {
 fn is_inside(c: Case, f: &[u8]) -> bool {
     let by_sum = record(&[0, 0, 0, 0], c.code);
     let by_crc = record(&[0, 0, 0, 1], c.code);
-    check::same(by_sum.payload_in(f), between(f, HEAD, 1))
-        && check::same(by_crc.payload_in(f), between(f, HEAD, 2))
+    by_sum.payload_in(f) == between(f, HEAD, 1) && by_crc.payload_in(f) == between(f, HEAD, 2)
 }
 
 // Whether the reader gives the wanted fields, or the wanted refusal.
@@ -60,7 +59,7 @@ fn is_read(c: Case, f: &[u8], want: &[u8]) -> bool {
         FrameRead::Refused(e) => want.len() == 0 && c.refuses(e),
         FrameRead::Read(r) => {
             let fields = [r.address, flag(r.reply), r.sequence, flag(r.crc), r.code];
-            c.row == 0 && check::same(&fields, part(want, 0, FIELDS))
+            c.row == 0 && fields.as_slice() == part(want, 0, FIELDS)
         }
     }
 }
@@ -86,7 +85,7 @@ fn read(c: Case, f: &[u8], want: &[u8], out: &mut [u8]) -> bool
     let is_right = c.guards(Frame::check(f))
         && is_read(c, f, want)
         && is_inside(c, f)
-        && check::same(Frame::payload(f), between(want, FIELDS, 0));
+        && Frame::payload(f) == between(want, FIELDS, 0);
     if c.row != 0 {
         return is_right;
     }
@@ -102,7 +101,7 @@ fn checks(c: Case, input: &[u8], want: &[u8]) -> bool {
     let whole = crc::crc(start, input);
     let sum = crc::sum(first, input);
     let bytes = u16_bytes(whole);
-    check::same(&[bytes[0], bytes[1], sum, crc::twos_complement(sum)], want)
+    [bytes[0], bytes[1], sum, crc::twos_complement(sum)].as_slice() == want
         && crc::crc(crc::crc(start, one), other) == whole
         && crc::sum(crc::sum(first, one), other) == sum
 }

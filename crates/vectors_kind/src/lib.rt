@@ -22,7 +22,7 @@ fn record(c: Case, fixed: &[u8], tail: &[u8], at: usize, want: &[u8]) -> bool {
     if want.len() < at {
         return false;
     }
-    c.row == 0 && check::same(fixed, &want[0..n]) && check::same(tail, &want[at..want.len()])
+    c.row == 0 && fixed == &want[0..n] && tail == &want[at..want.len()]
 }
 
 // Whether e is the wanted refusal and the tail is empty.

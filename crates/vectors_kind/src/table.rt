@@ -23,8 +23,8 @@ pub fn run(c: Case, input: &[u8], want: &[u8]) -> bool {
     }
     match look_up(c.argument, input[0]) {
         Found::Code(b, named) => {
-            c.row == 0 && check::same(&[b], want) && check::same(&[named], want)
-        },
+            c.row == 0 && [b].as_slice() == want && [named].as_slice() == want
+        }
         Found::Refused(e) => c.refuses(e),
         Found::NoTable => false,
     }

@@ -18,7 +18,7 @@ const BY_CODE: usize = 1;
 const OF_KIND: usize = 2;
 
 // How a payload is handed to the library: by its code byte, or by the kind that has this code byte.
-#[derive(Drop)]
+#[derive(Clone, Copy)]
 enum Call {
     ByCode(Side, u8),
     OfKind(u8),

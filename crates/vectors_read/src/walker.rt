@@ -5,7 +5,6 @@ ghost use Rattle.led.specs.Led.{leds};
 
 use led::LedStep;
 use led_walker::{LedWalker, started, step_at};
-use std::num::wrapping_add_usize;
 use vectors_case::{Case, LED_BYTES};
 use vectors_kind::list;
 
@@ -27,7 +26,7 @@ pub fn start(c: Case, p: &[u8], want: &[u8]) -> bool {
 // Whether a started walker holds the whole payload, or no bytes if starting is refused.
 fn holds(c: Case, held: &[u8], p: &[u8]) -> bool {
     if c.row == 0 {
-        check::same(held, p)
+        held == p
     } else {
         held.len() == 0
     }
@@ -84,19 +83,19 @@ fn right(
     let n = want.len() / LED_BYTES;
     if n <= k {
         return is_right
-            && offset == wrapping_add_usize(place, n * LED_BYTES)
+            && offset == place.wrapping_add(n * LED_BYTES)
             && hands_out(step, &[]);
     }
     let at = k * LED_BYTES;
     is_right
-        && offset == wrapping_add_usize(place, at + LED_BYTES)
+        && offset == place.wrapping_add(at + LED_BYTES)
         && hands_out(step, &want[at..at + LED_BYTES])
 }
 
 // Whether a step hands out the record with these bytes, or if there are none, no record.
 fn hands_out(step: LedStep, want: &[u8]) -> bool {
     match step {
-        LedStep::Record(r) => check::same(&list::led_bytes(r), want),
+        LedStep::Record(r) => list::led_bytes(r).as_slice() == want,
         LedStep::Finished => want.len() == 0,
     }
 }
