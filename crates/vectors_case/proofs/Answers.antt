@@ -1,12 +1,12 @@
 -- An answer that is true exactly when a statement holds, and the wanted answer by its row.
 -- Assumes nothing.
-use mathlib.Core.Path.{◌≡◌, refl, sym, ap, ◌∙◌}
+use mathlib.Core.Path.{◌≡◌, sym, ap, ◌∙◌}
 use mathlib.Core.Logic.{◌↔◌}
-use mathlib.Core.Bool.{Bool, true, false, not, false≢true}
+use mathlib.Core.Bool.{true, false, false≢true}
 use Prim.Native.Nat.{ℕ, ◌<◌, ◌≤◌}
 use native.Mathlib.Nat.{min-eq_left}
 use native.Mathlib.Omega.{arith}
-use borrow.Author.Tests.{not-true, not-false, eqb-true, eq-eqb, ne_eqb, lt-leb}
+use borrow.Author.Tests.{eqb-true, eq-eqb, ne_eqb, lt-leb}
 use lib.Dec.{eqb}
 use Rattle.payload_util.specs.Refusals.{row, ◌also◌}
 use Rattle.payload_util.specs.Guards.{room}
@@ -20,20 +20,6 @@ use Rattle.vectors_case.specs.declared.Case.{Case}
 module _ {P : Type 0} where
   pub never : (P → ⊥) → (false ≡ true) ↔ P
   never h = (λ e. absurd (false≢true e), λ p. absurd (h p))
-
-  pub always : P → (true ≡ true) ↔ P
-  always p = (λ e. p, λ q. refl)
-
-  -- after `if !r`
-  pub refuted : {r : Bool} → not r ≡ true → (r ≡ true) ↔ P → P → ⊥
-  refuted {r} e (there, back) p = false≢true (sym (not-true r e) ∙ back p)
-
-  pub confirmed : {r : Bool} → not r ≡ false → (r ≡ true) ↔ P → P
-  confirmed {r} e (there, back) = there (not-false r e)
-
-pub is_row : {number code first second : ℕ} (e : Refusal)
-    → e.number ≡ number → e.code ≡ code → e.first ≡ first → e.second ≡ second → e ≡ row number code first second
-is_row e n c f s = rw (← n, ← c, ← f, ← s)
 
 pub refused_pass : {e : Refusal} → Refused e ≡ Pass → ⊥
 refused_pass q = let z : ◌≡◌ {A = ℕ} 0 1 = cc in omega arith

@@ -8,7 +8,7 @@ use Prim.Native.Nat.{ℕ, suc, ◌+◌, ◌-◌, ◌≤◌, ◌<◌}
 use native.Mathlib.Nat.{sub-zero}
 use native.Mathlib.Numerals.{add-one}
 use native.Mathlib.Omega.{arith}
-use lib.ListN.{length, get_or, take, drop, set, replicate, length-append, length-replicate, get_or-replicate, take-append-drop, drop_of_length-le}
+use lib.ListN.{length, get_or, take, drop, set, replicate, length-append, length-replicate, get_or-replicate, take-append-drop}
 use lib.Seq.{paste, paste-suc, drop-cons, drop-drop, take_at, drop_at, length-take-le}
 use Rattle.vectors_case.specs.Buffer.{AllFrom, around}
 
@@ -22,22 +22,11 @@ put_more s from n b i h k l =
     let more : i - from < length (replicate n b) = simp length-replicate k in
     cc (paste-suc s from (replicate n b) (i - from) 0 within more, get_or-replicate n (i - from) b 0 k)
 
--- a turn of the loop that looks for another byte than b, and its two ends
-module _ (s : List ℕ) (i b : ℕ) where
-  pub rest_more : i < length s → get_or s i 0 ≡ b → AllFrom s (i + 1) b ↔ AllFrom s i b
-  rest_more l e =
-      let n : length s - i ≡ suc (length s - (i + 1)) = omega arith in
-      (λ h. cc (drop-cons s i 0 l, add-one i), λ h. cc (drop-cons s i 0 l, add-one i))
-
-  pub rest_stop : i < length s → (get_or s i 0 ≡ b → ⊥) → AllFrom s i b → ⊥
-  rest_stop l d h =
-      let n : length s - i ≡ suc (length s - (i + 1)) = omega arith in
-      d (cc (drop-cons s i 0 l))
-
-  pub rest_done : length s ≤ i → AllFrom s i b
-  rest_done h =
-      let n : length s - i ≡ 0 = omega arith in
-      drop_of_length-le s h ∙ simp n
+-- a turn of the loop that looks for another byte than b
+pub rest_more : (s : List ℕ) (i b : ℕ) → i < length s → get_or s i 0 ≡ b → AllFrom s (i + 1) b ↔ AllFrom s i b
+rest_more s i b l e =
+    let n : length s - i ≡ suc (length s - (i + 1)) = omega arith in
+    (λ h. cc (drop-cons s i 0 l, add-one i), λ h. cc (drop-cons s i 0 l, add-one i))
 
 -- a part `&s[0..at]`
 pub front_rest : (s : List ℕ) (at b : ℕ) → at ≤ length s → (take at s ≡ replicate at b) ↔ AllFrom (take (at - 0) s) 0 b

@@ -1,27 +1,23 @@
 -- What a writer leaves in a buffer that was filled up, by its answer.
 -- Assumes nothing.
 use mathlib.Core.Path.{◌≡◌, refl, sym, ap, ◌∙◌}
-use mathlib.Core.Logic.Iff
 use mathlib.Core.Logic.{◌↔◌}
-use mathlib.Core.Bool.{Bool, true, false, not}
 use mathlib.Core.List.{List, ◌++◌}
-use Prim.Native.Nat.{ℕ, zero, suc, ◌-◌, ◌≤◌}
+use Prim.Native.Nat.{ℕ, zero, suc, ◌-◌}
 use native.Mathlib.Nat.{zero-add, sub-zero}
 use native.Mathlib.Omega.{arith}
-use lib.ListN.{length, take, drop, replicate, length-replicate}
-use lib.Seq.{length-take-le}
+use lib.ListN.{length, drop, replicate, length-replicate}
 use Rattle.payload_util.specs.Guards.{room}
 use Rattle.payload_util.specs.Writing.{Effect, effect, room_last}
-use Rattle.payload_util.specs.declared.Refusal.{Refusal}
 use Rattle.payload_util.specs.declared.Guard.{Guard}
 use Rattle.payload_util.specs.declared.Guard.TheVariants.{Pass, Refused}
 use Rattle.payload_util.specs.declared.Written.{Written}
-use Rattle.payload_util.specs.declared.Written.TheVariants.{Wrote, Refused as NotWritten}
+use Rattle.payload_util.specs.declared.Written.TheVariants.{Wrote}
 use Rattle.payload_util.proofs.Guards.{also_pass, pass_room}
-use Rattle.vectors_case.specs.Case.{wanted, wanted_effect, Tried}
-use Rattle.vectors_case.specs.Buffer.{AllFrom, around}
+use Rattle.vectors_case.specs.Case.{wanted, wanted_effect}
+use Rattle.vectors_case.specs.Buffer.{around}
 use Rattle.vectors_case.specs.declared.Case.{Case}
-use Rattle.vectors_case.proofs.Answers.{wanted_pass, none_first, refused_pass, refuted, confirmed}
+use Rattle.vectors_case.proofs.Answers.{wanted_pass, none_first, refused_pass}
 use Rattle.vectors_case.proofs.Buffers.{around_fits}
 
 drop_replicate : (n m b : ℕ) → drop n (replicate m b) ≡ replicate (m - n) b
@@ -38,11 +34,6 @@ module _ (bytes s d : List ℕ) where
   left_wrote Pass n = (λ q. let (a, b) = both q in (refl, cc, b), λ (p, l, b). cc)
   left_wrote (Refused f) n =
       (λ q. let (a, b) = both q in let z : ◌≡◌ {A = ℕ} 0 1 = cc in absurd (omega arith), λ (p, l, b). absurd (refused_pass p))
-
-  left_refused : (g : Guard) (e : Refusal) → ((NotWritten e, s) ≡ effect g bytes d) ↔ ((Refused e ≡ g) × (s ≡ d))
-  left_refused Pass e =
-      (λ q. let (a, b) = both q in let z : ◌≡◌ {A = ℕ} 0 1 = cc in absurd (omega arith), λ (p, b). absurd (refused_pass p))
-  left_refused (Refused f) e = (λ q. let (a, b) = both q in (cc, b), λ (p, b). cc)
 
 module _ (c : Case) (want out : List ℕ) where
   abbrev asked : Guard
@@ -65,24 +56,3 @@ module _ (c : Case) (want out : List ℕ) where
             let fits = pass_room c.code (length want) (length out) (omega (arith, around_fits out want 0 c.fill s)) in
             back (none_first c _ r ∙ fits, l, s ∙ sym whole) ∙ sym to_left,
       )
-
-  pub refused_is : (e : Refusal) → Writes (NotWritten e) ↔ ((Refused e ≡ asked) × AllFrom out 0 c.fill)
-  refused_is e =
-      let (there, back) = left_refused want out (replicate (length out) c.fill) asked e in
-      let all : length out - 0 ≡ length out = sub-zero (length out) in
-      (λ q. let (p, s) = there (q ∙ to_left) in (p, rw all s), λ (p, s). back (p, rw all at s) ∙ sym to_left)
-
--- a part `&out[0..room]`, where r says whether it is the wanted one
-module _ (c : Case) (w : Written) (want out : List ℕ) (fits : c.room ≤ length out) where
-  abbrev Inside : ℕ → Type 0
-  Inside n = (w, take n out) ≡ wanted_effect c want (length (take n out))
-
-  whole_room : Inside (c.room - 0) ↔ ((w, take c.room out) ≡ wanted_effect c want c.room)
-  whole_room = simp (sub-zero, length-take-le c.room out fits) Iff.rfl
-
-  module _ {r : Bool} (part : (r ≡ true) ↔ Inside (c.room - 0)) where
-    pub inside : not r ≡ false → (w, take c.room out) ≡ wanted_effect c want c.room
-    inside e = confirmed e (Iff.trans part whole_room)
-
-    pub not_inside : not r ≡ true → Tried c w want out → ⊥
-    not_inside e t = refuted e (Iff.trans part whole_room) t.inside

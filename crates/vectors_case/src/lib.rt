@@ -207,13 +207,20 @@ pub fn holds(out: &[u8], at: usize, want: &[u8], fill: u8) -> bool
         return false;
     }
     let end = at + n;
-    if &out[at..end] != want {
+    if !same(&out[at..end], want) {
         return false;
     }
     if !filled(&out[0..at], 0, fill) {
         return false;
     }
     filled(out, end, fill)
+}
+
+// Whether the bytes are the same.
+fn same(a: &[u8], b: &[u8]) -> bool
+    ensures { (result ≡ true) ↔ (a.now ≡ b.now) }
+{
+    a == b
 }
 
 // Whether every byte from an index on is b.
