@@ -14,7 +14,7 @@ use Rattle.payload_util.specs.Bytes.{Bytes, byte_at, u16_at}
 use Rattle.payload_util.specs.declared.Guard.TheVariants.{Pass}
 use Rattle.payload_util.proofs.Words.{low_byte, high_byte}
 use Rattle.payload_util.proofs.Parts.{by_head}
-use Rattle.frame.specs.Frame.{asks_crc, check_over, check_len, check_bytes, check_at, fields_of, payload_in, frame_len, refuse_frame, head_bytes, body_bytes, frame_bytes}
+use Rattle.frame.specs.Frame.{asks_crc, check_over, check_len, check_bytes, check_at, fields_of, payload_in, frame_len, refuse_frame, head_bytes, frame_bytes}
 use Rattle.frame.proofs.Laws.{Accepted, long}
 
 -- a byte put together again from its top part and the rest

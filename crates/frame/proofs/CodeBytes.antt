@@ -1,6 +1,6 @@
 -- The code bytes of refusals.
 -- Assumes nothing.
-use mathlib.Core.Path.{◌≡◌, refl, sym, ◌∙◌}
+use mathlib.Core.Path.{◌≡◌, refl}
 use mathlib.Core.Bool.{Bool, true, false}
 use mathlib.Core.List.{List}
 use mathlib.Core.Logic.{◌⊎◌, inl, inr}
@@ -19,7 +19,7 @@ use Rattle.payload_util.specs.declared.Written.TheVariants.{Refused as NotWritte
 use Rattle.codes.specs.{CommandCode.read_command, ReplyCode.read_reply}
 use Rattle.codes.proofs.Laws.{command_one, reply_one}
 use Rattle.frame.specs.declared.Frame.{Frame}
-use Rattle.frame.specs.Frame.{is_reply, right_check, known_code, front, control, check_frame, fields_of, frame_len, refuse_frame, frame_bytes}
+use Rattle.frame.specs.Frame.{right_check, known_code, front, control, check_frame, fields_of, frame_len, refuse_frame, frame_bytes}
 use Rattle.frame.specs.Promises.{CodeBytes}
 
 -- each refusal of a guard is such

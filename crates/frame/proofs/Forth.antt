@@ -3,7 +3,7 @@
 use mathlib.Core.Path.{◌≡◌, refl, sym, ap, ◌∙◌}
 use mathlib.Core.Bool.{Bool, true, false, cond}
 use mathlib.Core.List.{List, [], ◌∷◌, ◌++◌}
-use Prim.Native.Nat.{ℕ, ◌+◌, ◌-◌, ◌*◌, ◌/◌, ◌%◌, ◌≤◌, ◌<◌}
+use Prim.Native.Nat.{ℕ, ◌+◌, ◌-◌, ◌*◌, ◌/◌, ◌%◌, ◌<◌}
 use native.Mathlib.Omega.{arith}
 use borrow.Author.Tests.{le-leb, lt-leb}
 use lib.Dec.{leb}
@@ -15,7 +15,7 @@ use Rattle.payload_util.specs.declared.Guard.TheVariants.{Pass}
 use Rattle.crc.proofs.Laws.{crc_lt}
 use Rattle.frame.specs.declared.Frame.{Frame}
 use Rattle.frame.specs.Frame.{crc_start, check_over, check_len, check_bytes, check_at, check_frame, read_frame, frame_payload, frame_len, refuse_frame, body_bytes, frame_bytes}
-use Rattle.frame.proofs.Laws.{Accepted, accepts, Writable, writable}
+use Rattle.frame.proofs.Laws.{accepts, Writable, writable}
 
 -- a number of two bytes at a list's end, and of one
 u16_at_end : (s : List ℕ) (x y n : ℕ) → n ≡ length s → u16_at (s ++ x ∷ y ∷ []) n ≡ x + 256 * y

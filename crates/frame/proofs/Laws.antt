@@ -1,21 +1,20 @@
 -- What the checks of a frame say, and what the writer's say.
 -- Assumes nothing.
-use mathlib.Core.Path.{◌≡◌, ◌∙◌}
+use mathlib.Core.Path.{◌≡◌}
 use mathlib.Core.Bool.{Bool, true, false}
-use mathlib.Core.List.{List, ◌++◌}
+use mathlib.Core.List.{List}
 use Prim.Native.Nat.{ℕ, ◌+◌, ◌≤◌, ◌<◌}
 use native.Mathlib.Omega.{arith}
 use borrow.Author.Tests.{ltb-true, leb-true, eqb-true, lt-ltb, le-leb, eq-eqb}
 use lib.Dec.{ltb, leb, eqb}
 use lib.ListN.{length, take}
-use Rattle.payload_util.specs.Bytes.{byte_at, u16_at, u16_bytes}
-use Rattle.payload_util.specs.Writing.{Effect, put}
+use Rattle.payload_util.specs.Bytes.{byte_at, u16_at}
 use Rattle.payload_util.specs.Refusals.{row, require}
 use Rattle.payload_util.specs.Guards.{at_least, declared_len}
 use Rattle.payload_util.specs.declared.Guard.TheVariants.{Pass}
 use Rattle.payload_util.proofs.Guards.{check_pass, also_pass, least_pass, pass_least, declared_pass}
 use Rattle.frame.specs.declared.Frame.{Frame}
-use Rattle.frame.specs.Frame.{som, longest, is_reply, asks_crc, check_over, check_len, check_at, right_check, known_code, front, control, check_frame, frame_len, refuse_frame, head_bytes, write_frame}
+use Rattle.frame.specs.Frame.{som, longest, is_reply, asks_crc, check_over, check_len, check_at, right_check, known_code, front, control, check_frame, refuse_frame}
 
 -- ---- reading
 
@@ -56,6 +55,9 @@ len_pos false = omega arith
 pub long : (f : List ℕ) → Accepted f → 7 ≤ length f
 long f a = omega (arith, a.room, len_pos (asks_crc f))
 
+pub checked_long : (f : List ℕ) → check_frame f ≡ Pass → 7 ≤ length f
+checked_long f e = long f (accepted f e)
+
 -- the checks say no more
 pub accepts : (f : List ℕ) → Accepted f → check_frame f ≡ Pass
 unfolding check_frame front control right_check declared_len
@@ -87,9 +89,3 @@ writable r len e =
       known = known.0;
       short = leb-true _ _ (check_pass _ _ known.1);
     }
-
--- h and b are the bytes before the payload and after it, as the writer has them
-pub written : (r : Frame) (p out h b : List ℕ) (n v : ℕ) (w : Effect) → n ≡ check_len r.crc → h ≡ head_bytes r (6 + length p + n)
-    → v ≡ check_over r.crc (h ++ p) → b ≡ take n (u16_bytes v) → refuse_frame r (frame_len r p) ≡ Pass → w ≡ put r.code ((h ++ p) ++ b) out
-    → w ≡ write_frame r p out
-written r p out h b n v w en eh ev eb pass e = e ∙ rw (pass, eb, ev, eh, en)

@@ -11,7 +11,7 @@ use payload_util::{
 };
 
 // What a frame says beside its payload.
-#[derive(Drop)]
+#[derive(Clone, Copy)]
 pub struct Frame {
     // 0 to 127
     pub address: u8,
@@ -31,6 +31,7 @@ pub enum FrameRead {
 }
 
 // Rows 1 and 2: the code is in the table of replies, or of commands.
+#[tactic(auto, unfolding(crate::specs::Frame::known_code))]
 fn require_code(reply: bool, code: u8) -> Guard
     ensures { result ≡ known_code reply code }
 {
@@ -62,6 +63,7 @@ fn value_if(asked: bool, value: u8) -> u8
 }
 
 // The check over two parts, as a number.
+#[tactic(auto, using(crc::proofs::Laws::crc_parts, crc::proofs::Laws::sum_parts), unfolding(crate::specs::Frame::check_over))]
 fn check_over(crc: bool, head: &[u8], payload: &[u8]) -> u16
     ensures { result ≡ check_over crc (head.now ++ payload.now) }
 {
@@ -94,6 +96,7 @@ impl Frame {
     pub const CRC_START: u16 = 0x1D0F;
 
     // Rows 4, 20, 22, 6.
+    #[tactic(auto, using(payload_util::proofs::Guards::passed, payload_util::proofs::Guards::stopped, payload_util::proofs::Guards::skipped, payload_util::proofs::Guards::least_pass), unfolding(crate::specs::Frame::front))]
     fn front(f: &[u8]) -> Guard
         ensures { result ≡ front f.now }
     {
@@ -113,6 +116,7 @@ impl Frame {
     }
 
     // Rows 20, 4, 21.
+    #[tactic(auto, using(payload_util::proofs::Guards::passed, payload_util::proofs::Guards::stopped, payload_util::proofs::Guards::skipped), unfolding(crate::specs::Frame::control))]
     fn control(f: &[u8]) -> Guard
         requires { 7 ≤ length f.now }
         ensures { result ≡ control f.now }
@@ -130,6 +134,7 @@ impl Frame {
     }
 
     // All refusals before the code's have code byte 0.
+    #[tactic(auto, using(payload_util::proofs::Guards::passed, payload_util::proofs::Guards::stopped, payload_util::proofs::Guards::skipped, crate::proofs::Laws::front_long), unfolding(crate::specs::Frame::check_frame))]
     pub fn check(f: &[u8]) -> Guard
         ensures { result ≡ check_frame f.now }
     {
@@ -157,6 +162,7 @@ impl Frame {
         }
     }
 
+    #[tactic(auto, using(payload_util::proofs::Guards::passed, crate::proofs::Laws::checked_long))]
     pub fn decode(f: &[u8]) -> FrameRead
         ensures { frame_outcome result ≡ read_frame f.now }
     {
@@ -179,6 +185,7 @@ impl Frame {
     }
 
     // The payload; empty if reading refuses. It checks the whole frame again: payload_in does not.
+    #[tactic(auto, using(payload_util::proofs::Guards::passed, crate::proofs::Laws::checked_long))]
     pub fn payload(f: &[u8]) -> &[u8]
         ensures { result.now ≡ frame_payload f.now }
     {
@@ -189,6 +196,7 @@ impl Frame {
     }
 
     // Rows 20, 1 or 2, 22, for a frame of so many bytes.
+    #[tactic(auto, using(payload_util::proofs::Guards::passed, payload_util::proofs::Guards::stopped, payload_util::proofs::Guards::skipped), unfolding(crate::specs::Frame::refuse_frame))]
     fn refuse(self, len: usize) -> Guard
         ensures { result ≡ refuse_frame self len }
     {
