@@ -1,32 +1,18 @@
 -- Records folded in place, one after the other.
 -- Assumes nothing.
-use mathlib.Core.Path.{◌≡◌, refl, sym, ap, ap₂, subst, ◌∙◌}
+use mathlib.Core.Path.{◌≡◌, sym, ap, ap₂, subst, ◌∙◌}
 use mathlib.Core.List.{List, ◌++◌}
 use Prim.Native.Nat.{ℕ, ◌+◌, ◌*◌, ◌≤◌}
 use native.Mathlib.Numerals.{add-one}
 use native.Mathlib.Omega.{arith}
-use lib.ListN.{length, get_or, set, take, drop, length-take, length-drop, take-append-drop}
+use lib.ListN.{length, take, drop, length-drop, take-append-drop}
 use lib.Seq.{length-take-le, take-append-le, drop-append-le}
-use Rattle.payload_util.specs.Loss.{Keep, up_to, kept, keep, times}
-use Rattle.payload_util.proofs.Parts.{by_head}
+use Rattle.payload_util.specs.Loss.{Keep, keep, times}
 use Rattle.payload_util.proofs.Folds.{keep_append, drop_keep, keep_front, times_next, length_times}
 use Rattle.led.specs.Led.{highest_color, led_limits}
 
 abbrev limits : List Keep
 limits = led_limits highest_color
-
--- the colours of one record
-pub record_folded : (b : List ℕ) → 14 ≤ length b
-    → set (set (set (set b 5 (kept (up_to highest_color) (get_or b 5 0))) 6 (kept (up_to highest_color) (get_or b 6 0))) 12
-    (kept (up_to highest_color) (get_or b 12 0))) 13 (kept (up_to highest_color) (get_or b 13 0))
-    ≡ keep limits b
-record_folded b h =
-    by_head 14 b (keep limits) h (sym (by_head 14 b (λ q. set (set (set (set q 5 (kept (up_to highest_color) (get_or q 5 0))) 6
-    (kept (up_to highest_color) (get_or q 6 0))) 12 (kept (up_to highest_color) (get_or q 12 0))) 13 (kept (up_to highest_color) (get_or q 13 0))) h refl))
-
--- a payload at the front of a buffer is no longer than the buffer
-pub front_fits : (p o : List ℕ) → take (length p) o ≡ p → length p ≤ length o
-front_fits p o h = omega (arith, ap length h, length-take (length p) o)
 
 -- one record more, in the w bytes that are lent; p is the payload at the front of the buffer o, and q is the buffer now
 module _ (p o q : List ℕ) (k w : ℕ) (width : w ≡ 14) (front : take (length p) o ≡ p) (is : q ≡ keep (times k limits) o)

@@ -28,8 +28,14 @@ use Rattle.led.specs.declared.LedColor.TheVariants.{Black, Red, Green, Amber, Bl
 -- a colour's byte reads back as the colour
 pub color_back : (c : LedColor) → color_of (color_byte c) ≡ c
 unfolding color_of
-color_back c =
-    elim c [ Black ↦ refl | Red ↦ refl | Green ↦ refl | Amber ↦ refl | Blue ↦ refl | Magenta ↦ refl | Cyan ↦ refl | White ↦ refl ]
+color_back Black = refl
+color_back Red = refl
+color_back Green = refl
+color_back Amber = refl
+color_back Blue = refl
+color_back Magenta = refl
+color_back Cyan = refl
+color_back White = refl
 
 -- a byte up to 7 stays, and one above becomes 0
 pub color_kept : (b : ℕ) → b < 256 → color_byte (color_of b) ≡ kept (up_to 7) b

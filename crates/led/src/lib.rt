@@ -13,7 +13,7 @@ use payload_util::{
 };
 
 // Table 18.
-#[derive(Drop)]
+#[derive(Clone, Copy)]
 pub enum LedColor {
     Black,
     Red,
@@ -29,6 +29,7 @@ impl LedColor {
     const HIGHEST: u8 = 7;
 
     // An unknown colour becomes Black.
+    #[tactic(auto, unfolding(crate::specs::Led::color_of))]
     pub fn from_byte(b: u8) -> LedColor
         ensures { result ≡ color_of b }
     {
@@ -62,7 +63,7 @@ impl LedColor {
 }
 
 // Times are in units of 100 ms.
-#[derive(Drop)]
+#[derive(Clone, Copy)]
 pub struct LedTemporary {
     // Table 16: 0 no operation, 1 cancel, 2 set.
     pub control: u8,
@@ -105,7 +106,7 @@ impl LedTemporary {
     }
 }
 
-#[derive(Drop)]
+#[derive(Clone, Copy)]
 pub struct LedPermanent {
     // Table 17: 0 no operation, 1 set.
     pub control: u8,
@@ -145,7 +146,7 @@ impl LedPermanent {
     }
 }
 
-#[derive(Drop)]
+#[derive(Clone, Copy)]
 pub struct LedRecord {
     pub reader: u8,
     pub led: u8,

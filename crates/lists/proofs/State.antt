@@ -4,6 +4,7 @@ use mathlib.Core.Path.{◌≡◌, refl, sym, ◌∙◌, ap, ap₂}
 use mathlib.Core.List.{List, [], ◌∷◌, ◌++◌, append_assoc, append-nil}
 use Prim.Native.Nat.{ℕ, suc, ◌+◌, ◌*◌, ◌-◌, ◌≤◌, ◌<◌}
 use native.Mathlib.Nat.{suc-mul, zero-mul, mul-le-mul_right}
+use native.Mathlib.Numerals.{add-one}
 use native.Mathlib.Omega.{arith}
 use lib.ListN.{length, take, drop, get_or, length-append, length-drop, drop_of_length-le}
 use borrow.Author.Tests.{lt-ltb}
@@ -36,6 +37,10 @@ module _ (code at : ℕ) (bytes out e : List ℕ) (r : Written) where
 
 -- ---- records of one size
 
+-- the buffer after k records of a list
+abbrev pub state : {X : Type 0} → (X → List ℕ) → ℕ → List X → List ℕ → ℕ → List ℕ
+state bytes size xs o k = flat bytes (take k xs) ++ drop (k * size) o
+
 module _ {X : Type 0} (bytes : X → List ℕ) (size : ℕ) (fixed : (x : X) → length (bytes x) ≡ size) where
   flat_append : (a b : List X) → flat bytes (a ++ b) ≡ flat bytes a ++ flat bytes b
   flat_append [] b = refl
@@ -55,29 +60,21 @@ module _ {X : Type 0} (bytes : X → List ℕ) (size : ℕ) (fixed : (x : X) →
   answer_is code (x ∷ xs) o = rw (lt-ltb 0 (suc (length xs)) (omega arith), flat_length (x ∷ xs))
 
   module _ (code : ℕ) (xs : List X) (o : List ℕ) where
-    -- the buffer after k records
-    abbrev pub state : ℕ → List ℕ
-    state k = flat bytes (take k xs) ++ drop (k * size) o
-
-    -- the buffer after all records, or as it was if the writer refuses
-    abbrev pub end : List ℕ
-    end = (put_checked (not_empty code xs) code (flat bytes xs) o).1
-
-    pub state_start : state 0 ≡ o
+    pub state_start : state bytes size xs o 0 ≡ o
     state_start = ap (λ (n : ℕ). drop n o) (zero-mul size)
 
     front : (k : ℕ) → k ≤ length xs → length (flat bytes (take k xs)) ≡ k * size
     front k h = flat_length (take k xs) ∙ ap (λ (n : ℕ). n * size) (length-take-le k xs h)
 
-    pub state_length : length xs * size ≤ length o → (k : ℕ) → k ≤ length xs → length (state k) ≡ length o
+    state_length : length xs * size ≤ length o → (k : ℕ) → k ≤ length xs → length (state bytes size xs o k) ≡ length o
     state_length f k h =
         let e = front k h in
         let g = mul-le-mul_right size h in
         simp (length-append, length-drop) (omega arith)
 
     -- one record more, at its place
-    pub state_step : length xs * size ≤ length o → (none : X) (k : ℕ) → k < length xs
-        → (put_at code (k * size) (bytes (get_or xs k none)) (state k)).1 ≡ state (suc k)
+    state_step : length xs * size ≤ length o → (none : X) (k : ℕ) → k < length xs
+        → (put_at code (k * size) (bytes (get_or xs k none)) (state bytes size xs o k)).1 ≡ state bytes size xs o (suc k)
     state_step f none k h =
         let p = flat bytes (take k xs) in
         let r = bytes (get_or xs k none) in
@@ -85,12 +82,12 @@ module _ {X : Type 0} (bytes : X → List ℕ) (size : ℕ) (fixed : (x : X) →
         let s : length r ≡ size = fixed (get_or xs k none) in
         let next : flat bytes (take (suc k) xs) ≡ p ++ (r ++ []) =
         ap (flat bytes) (take-suc xs k none h) ∙ flat_append (take k xs) (get_or xs k none ∷ []) in
-        let rest : drop (k * size + size) (state k) ≡ drop (k * size + size) o =
-        ap (λ (n : ℕ). drop (n + size) (state k)) (sym e) ∙ drop-append-add p (drop (k * size) o) size ∙ drop-drop size (k * size) o in
-        let fits : k * size + size ≤ length (state k) = omega (arith, state_length f k (omega arith), mul-le-mul_right size h, suc-mul k size) in
+        let rest : drop (k * size + size) (state bytes size xs o k) ≡ drop (k * size + size) o =
+        ap (λ (n : ℕ). drop (n + size) (state bytes size xs o k)) (sym e) ∙ drop-append-add p (drop (k * size) o) size ∙ drop-drop size (k * size) o in
+        let fits : k * size + size ≤ length (state bytes size xs o k) = omega (arith, state_length f k (omega arith), mul-le-mul_right size h, suc-mul k size) in
         simp (
           s,
-          pass_room code (k * size + size) (length (state k)) fits,
+          pass_room code (k * size + size) (length (state bytes size xs o k)) fits,
           take_at p (drop (k * size) o) (k * size) e,
           rest,
           next,
@@ -98,59 +95,43 @@ module _ {X : Type 0} (bytes : X → List ℕ) (size : ℕ) (fixed : (x : X) →
           append_assoc,
         )
 
-    -- what each answer says of the buffer
-    pub data Facts : Written → Type 0 where
-      refuses : {e : Refusal} → o ≡ end → Facts (Refused e)
-      goes_on : {n : ℕ} → length xs * size ≤ length o → state (length xs) ≡ end → Facts (Wrote n)
-
-    abbrev guard : Guard
-    guard = not_empty code xs also room code (length (flat bytes xs)) (length o)
-
-    pub facts : Facts (list_answer (length xs) size code (length o))
-    facts = rw (answer_is code xs o) (go guard refl)
-      where
-        go : (g : Guard) → guard ≡ g → Facts (answer g (length xs * size))
-        go Pass e =
-            let fits = room_pass code (length (flat bytes xs)) (length o) (also_pass (not_empty code xs) _ e).1 in
-            goes_on (omega (arith, flat_length xs))
-            (rw (take-length xs, ← flat_length xs) (ap (λ (h : Guard). (effect h (flat bytes xs) o).1) (sym e)))
-        go (Stopped r) e = refuses (ap (λ (h : Guard). (effect h (flat bytes xs) o).1) (sym e))
-
-    pub answers : ◌≡◌ {A = Effect} (list_answer (length xs) size code (length o), end) (put_checked (not_empty code xs) code (flat bytes xs) o)
-    answers = rw (answer_is code xs o) (go guard)
-      where
-        go : (g : Guard) → ◌≡◌ {A = Effect} (answer g (length xs * size), (effect g (flat bytes xs) o).1) (effect g (flat bytes xs) o)
-        go Pass = rw (flat_length xs)
-        go (Stopped r) = refl
-
-    pub end_length : length end ≡ length o
-    end_length = go guard refl
-      where
-        go : (g : Guard) → guard ≡ g → length (effect g (flat bytes xs) o).1 ≡ length o
-        go Pass e =
-            let fits = room_pass code (length (flat bytes xs)) (length o) (also_pass (not_empty code xs) _ e).1 in
-            simp (length-append, length-drop) (omega arith)
-        go (Stopped r) e = refl
+    -- the same, as a loop's turn has it: e is the buffer after the writer of a record that was read from the list
+    pub turn : {w : Written} {now e : List ℕ} (none : X) (k : ℕ) → length xs * size ≤ length o → k < length xs
+        → now ≡ state bytes size xs o k → ◌≡◌ {A = Effect} (w, e) (put_at code (k * size) (bytes (get_or xs k none)) now)
+        → e ≡ state bytes size xs o (k + 1)
+    turn none k f h at put =
+        ap (λ (x : Effect). x.1) put ∙ ap (λ (l : List ℕ). (put_at code (k * size) (bytes (get_or xs k none)) l).1) at
+        ∙ state_step f none k h ∙ rw add-one
 
     -- for a function that first takes the answer, as `list_answer` gives it, and then writes the records
     module _ {a : Written} (q : a ≡ list_answer (length xs) size code (length o)) where
-      known : Facts a
-      known = rw q facts
+      abbrev guard : Guard
+      guard = not_empty code xs also room code (length (flat bytes xs)) (length o)
 
-      refused_end : (y : Written) {e : Refusal} → Facts y → y ≡ Refused e → o ≡ end
-      refused_end (Refused f) (refuses h) p = h
-      refused_end (Wrote n) (goes_on room h) p = let z : ◌≡◌ {A = ℕ} 0 1 = cc in absurd (omega arith)
-
-      went_on : (y : Written) {n : ℕ} → Facts y → y ≡ Wrote n → (length xs * size ≤ length o) × (state (length xs) ≡ end)
-      went_on (Refused f) (refuses h) p = let z : ◌≡◌ {A = ℕ} 0 1 = cc in absurd (omega arith)
-      went_on (Wrote n) (goes_on room h) p = (room, h)
+      known : a ≡ answer guard (length xs * size)
+      known = q ∙ answer_is code xs o
 
       pub refused_is : {e : Refusal} → a ≡ Refused e → ◌≡◌ {A = Effect} (a, o) (put_checked (not_empty code xs) code (flat bytes xs) o)
-      refused_is p = ap₂ {C = Effect} (λ y l. (y, l)) q (refused_end a known p) ∙ answers
+      refused_is {e} p = go guard known
+        where
+          go : (g : Guard) → a ≡ answer g (length xs * size) → ◌≡◌ {A = Effect} (a, o) (effect g (flat bytes xs) o)
+          go Pass r = let z : ◌≡◌ {A = ℕ} 0 1 = cc in absurd (omega arith)
+          go (Stopped x) r = ap (λ (y : Written). (y, o)) r
 
       pub records_fit : {n : ℕ} → a ≡ Wrote n → length xs * size ≤ length o
-      records_fit p = (went_on a known p).0
+      records_fit {n} p = go guard refl known
+        where
+          go : (g : Guard) → guard ≡ g → a ≡ answer g (length xs * size) → length xs * size ≤ length o
+          go Pass e r = omega (arith, flat_length xs, room_pass code (length (flat bytes xs)) (length o) (also_pass (not_empty code xs) _ e).1)
+          go (Stopped x) e r = let z : ◌≡◌ {A = ℕ} 0 1 = cc in absurd (omega arith)
 
-      pub written_is : {n : ℕ} → a ≡ Wrote n
-          → ◌≡◌ {A = Effect} (a, flat bytes xs ++ drop (length xs * size) o) (put_checked (not_empty code xs) code (flat bytes xs) o)
-      written_is p = ap₂ {C = Effect} (λ y l. (y, l)) q (rw (take-length xs) at (went_on a known p).1) ∙ answers
+      pub written_is : {n : ℕ} {now : List ℕ} (k : ℕ) → a ≡ Wrote n → now ≡ state bytes size xs o k → k ≡ length xs
+          → ◌≡◌ {A = Effect} (a, now) (put_checked (not_empty code xs) code (flat bytes xs) o)
+      written_is {n} {now} k p at all = go guard known
+        where
+          end : now ≡ flat bytes xs ++ drop (length (flat bytes xs)) o
+          end = at ∙ rw (all, take-length, ← flat_length xs)
+
+          go : (g : Guard) → a ≡ answer g (length xs * size) → ◌≡◌ {A = Effect} (a, now) (effect g (flat bytes xs) o)
+          go Pass r = ap₂ {C = Effect} (λ y l. (y, l)) (r ∙ ap Wrote (sym (flat_length xs))) end
+          go (Stopped x) r = let z : ◌≡◌ {A = ℕ} 0 1 = cc in absurd (omega arith)
