@@ -1,14 +1,18 @@
 // Shows payloads in words: reads lines such as `command 69 00 00 ..` from standard input or from a file.
 #![tactic(auto)]
 
+use inspect_answer::failure::fail;
 use inspect_answer::input::all;
 use inspect_form::out::flush;
 use inspect_line::LONGEST;
-use libc::{STDERR_FILENO, STDIN_FILENO, STDOUT_FILENO};
+use std::env::FillError;
+use std::fs::File;
+use std::io::{BufWriter, Read, Write};
+use std::rt::{Env, Files};
+use std::{io, str};
 
-fn help() {
-    io::write_all(
-        STDOUT_FILENO,
+fn help(rt: &impl Print) -> io::Result<()> {
+    io::writer(rt).write_all(
         b"usage: inspect [FILE]\n\n\
           Shows OSDP payloads in words. A line of FILE, or of standard input, is a payload: the word command or reply,\n\
           its code byte and its bytes in hex, with or without spaces.\n\n    \
@@ -19,53 +23,61 @@ fn help() {
           Shown are the kind and the record, field by field; the strict check's first complaint; the normalised bytes\n\
           where they differ; or the refusal: its row, its two numbers and what it means. A line that is no payload is\n\
           named with the column where it goes wrong, and the rest goes on.\n",
-    );
+    )
 }
 
-fn inspect(fd: i32) {
-    let mut input = io::large_buffer();
+fn inspect<P: Print + Eprint + AllocGlobal, R: Read>(rt: &P, from: &mut R) -> io::Result<()> {
+    let mut input = [0u8; 65536];
     let mut payload = [0u8; LONGEST];
     let mut space = [0u8; LONGEST];
-    let mut out = io::large_buffer();
-    let at = all(fd, &mut input, &mut payload, &mut space, &mut out);
-    flush(&out, at);
+    let mut out = BufWriter::with_capacity(rt.alloc(), 65536, io::writer(rt))?;
+    all(rt, from, &mut input, &mut payload, &mut space, &mut out)?;
+    flush(&mut out)
 }
 
-fn inspect_file(name: &[u8]) {
-    let fd = os::open_read(name);
-    if fd < 0 {
-        io::write_all(STDERR_FILENO, b"inspect: cannot open ");
-        os::fail(name);
-        return;
+fn inspect_file<P: Files + Print + Eprint + AllocGlobal>(rt: &P, name: &str) -> io::Result<()> {
+    match File::open(rt, name) {
+        Ok(mut file) => inspect(rt, &mut file),
+        Err(e) => {
+            eprint!(rt; "inspect: cannot open ")?;
+            fail(rt, name, e)
+        }
     }
-    inspect(fd);
-    libc::close(fd);
+}
+
+// What is said of an argument that cannot be a file's name.
+fn bad_name(rt: &impl Eprint, why: &str) -> io::Result<()> {
+    eprintln!(rt; "inspect: bad file name: {why}")
 }
 
 // What the argument asks for.
-fn argued() {
-    let mut space = io::buffer();
-    let n = os::arg(1, &mut space);
-    if n == 0 {
-        os::fail(b"inspect: bad file name");
-        return;
-    }
-    if check::same(&space[0..n], b"--help") {
-        help();
-    } else {
-        inspect_file(&space[0..n]);
+fn argued<P: Env + Files + Print + Eprint + AllocGlobal>(rt: &P) -> io::Result<()> {
+    let mut space = [0u8; 4096];
+    let n = match rt.arg(1, &mut space) {
+        Ok(n) => n,
+        Err(_) => return bad_name(rt, "File name too long"),
+    };
+    let Ok(name) = str::from_utf8(&space[0..n]) else {
+        return bad_name(rt, "not UTF-8");
+    };
+    match name {
+        "" => bad_name(rt, "Success"),
+        "--help" => help(rt),
+        _ => inspect_file(rt, name),
     }
 }
 
-fn main() {
-    match os::arg_count() {
-        0 | 1 => inspect(STDIN_FILENO),
-        2 => argued(),
-        _ => {
-            io::write_all(
-                STDERR_FILENO,
-                b"inspect: one file at most; inspect --help says more\n",
-            );
-        }
+fn has_argument(rt: &impl Env, i: usize) -> bool {
+    let mut space = [0u8; 1];
+    !matches!(rt.arg(i, &mut space), Err(FillError::NotPresent))
+}
+
+fn main(rt: HostRuntime) -> io::Result<()> {
+    if has_argument(&rt, 2) {
+        return eprintln!(rt; "inspect: one file at most; inspect --help says more");
     }
+    if has_argument(&rt, 1) {
+        return argued(&rt);
+    }
+    inspect(&rt, &mut rt.reader())
 }

@@ -11,6 +11,8 @@ use led::LedRecord;
 use osdp::{Kind, Lookup, Side};
 use output::OutputRecord;
 use payload_util::{Guard, Refusal, Written};
+use std::io;
+use std::io::Write;
 
 fn side_number(line: Line) -> u64 {
     let side = line.side;
@@ -20,7 +22,7 @@ fn side_number(line: Line) -> u64 {
     }
 }
 
-fn title(line: Line, name: &[u8], out: &mut [u8], at: usize) -> usize {
+fn title<W: Write>(line: Line, name: &[u8], out: &mut W) -> io::Result<()> {
     let values = [
         line.number as u64,
         side_number(line),
@@ -28,14 +30,14 @@ fn title(line: Line, name: &[u8], out: &mut [u8], at: usize) -> usize {
         0,
         line.len as u64,
     ];
-    form(b"line %d: %w %x%s, length %d\n", &values, name, out, at)
+    form(b"line %d: %w %x%s, length %d\n", &values, name, out)
 }
 
 // A refusal: its number, its two numbers, and what it means. Of the strict check (1, not 0), that is said too.
-fn refusal(strict: u64, e: Refusal, out: &mut [u8], at: usize) -> usize {
+fn refusal<W: Write>(strict: u64, e: Refusal, out: &mut W) -> io::Result<()> {
     let row = e.number as u64;
     let values = [strict, row, e.first as u64, e.second as u64, row];
-    form(b"  %yrefused, row %d (%d, %d): %r\n", &values, b"", out, at)
+    form(b"  %yrefused, row %d (%d, %d): %r\n", &values, b"", out)
 }
 
 // The offset after the record at an offset; only LED and OUT have more than one record.
@@ -51,87 +53,76 @@ fn next(kind: Kind, p: &[u8], offset: usize) -> usize
 }
 
 // The records, one after another.
-fn records<'a>(
+fn records<W: Write>(
     kind: Kind,
-    template: &'a [u8],
-    p: &'a [u8],
-    tail: &'a [u8],
-    out: &mut [u8],
-    from: usize,
-) -> usize {
-    let mut at = from;
+    template: &[u8],
+    p: &[u8],
+    tail: &[u8],
+    out: &mut W,
+) -> io::Result<()> {
     let mut offset: usize = 0;
     while offset < p.len() {
-        at = form(template, &of(kind, p, offset), tail, &mut *out, at);
+        form(template, &of(kind, p, offset), tail, out)?;
         offset = next(kind, p, offset);
     }
-    at
+    Ok(())
 }
 
 // The strict check's first complaint.
-fn strict(line: Line, p: &[u8], out: &mut [u8], at: usize) -> usize {
+fn strict<W: Write>(line: Line, p: &[u8], out: &mut W) -> io::Result<()> {
     let side = line.side;
     match osdp::strict(side, line.code, p) {
-        Guard::Pass => at,
-        Guard::Refused(e) => refusal(1, e, out, at),
+        Guard::Pass => Ok(()),
+        Guard::Refused(e) => refusal(1, e, out),
     }
 }
 
 // The normalised bytes, where they are not the payload's.
-fn normalised(line: Line, p: &[u8], space: &mut [u8], out: &mut [u8], at: usize) -> usize {
+fn normalised<W: Write>(line: Line, p: &[u8], space: &mut [u8], out: &mut W) -> io::Result<()> {
     let side = line.side;
-    let Written::Wrote(n) = osdp::normalise(side, line.code, p, &mut *space) else {
-        return at;
+    let Written::Wrote(n) = osdp::normalise(side, line.code, p, space) else {
+        return Ok(());
     };
     let bytes = first(space, n);
-    if check::same(bytes, p) {
-        return at;
+    if bytes == p {
+        return Ok(());
     }
-    form(b"  normalised:%h\n", &[], bytes, out, at)
+    form(b"  normalised:%h\n", &[], bytes, out)
 }
 
-fn accepted<'a>(
+fn accepted<W: Write>(
     line: Line,
-    words: &'a [u8],
-    p: &'a [u8],
+    words: &[u8],
+    p: &[u8],
     space: &mut [u8],
-    out: &mut [u8],
-    from: usize,
-) -> usize {
+    out: &mut W,
+) -> io::Result<()> {
     let side = line.side;
     let Lookup::Carried(kind) = osdp::kind_of(side, line.code) else {
-        return from;
+        return Ok(());
     };
-    let shown = records(
-        kind,
-        nth(1, words),
-        p,
-        tail(kind, p, &mut *space),
-        &mut *out,
-        from,
-    );
-    let at = strict(line, p, &mut *out, shown);
-    normalised(line, p, space, out, at)
+    records(kind, nth(1, words), p, tail(kind, p, space), out)?;
+    strict(line, p, out)?;
+    normalised(line, p, space, out)
 }
 
-pub(crate) fn answer<'a>(
+pub(crate) fn answer<W: Write>(
     line: Line,
-    words: &'a [u8],
-    p: &'a [u8],
+    words: &[u8],
+    p: &[u8],
     space: &mut [u8],
-    out: &mut [u8],
-    from: usize,
-) -> Shown {
-    let titled = title(line, nth(0, words), &mut *out, from);
+    out: &mut W,
+) -> io::Result<Shown> {
+    title(line, nth(0, words), out)?;
     let side = line.side;
     match osdp::check(side, line.code, p) {
-        Guard::Pass => Shown {
-            at: accepted(line, words, p, space, out, titled),
-            is_refused: false,
-        },
-        Guard::Refused(e) => Shown {
-            at: refusal(0, e, out, titled),
-            is_refused: true,
-        },
+        Guard::Pass => {
+            accepted(line, words, p, space, out)?;
+            Ok(Shown { is_refused: false })
+        }
+        Guard::Refused(e) => {
+            refusal(0, e, out)?;
+            Ok(Shown { is_refused: true })
+        }
     }
 }

@@ -2,6 +2,7 @@
 #![tactic(auto)]
 
 mod answer;
+pub mod failure;
 pub mod input;
 
 use crate::answer::answer;
@@ -9,11 +10,12 @@ use inspect_form::out::digit;
 use inspect_form::table::{label, row};
 use inspect_line::Line;
 use osdp::Side;
+use std::io;
+use std::io::Write;
 
-// How much of the output buffer is in use after a payload was shown, and whether it was refused.
-#[derive(Drop)]
+// Whether a payload that was shown was refused.
+#[derive(Clone, Copy)]
 pub(crate) struct Shown {
-    pub(crate) at: usize,
     pub(crate) is_refused: bool,
 }
 
@@ -28,7 +30,12 @@ fn label_of(line: Line) -> u64 {
 }
 
 // Shows a payload. The row of a code has its name and, for a kind, the template of a record, with each field under the Rust's name.
-pub(crate) fn show(line: Line, p: &[u8], space: &mut [u8], out: &mut [u8], from: usize) -> Shown {
+pub(crate) fn show<W: Write>(
+    line: Line,
+    p: &[u8],
+    space: &mut [u8],
+    out: &mut W,
+) -> io::Result<Shown> {
     let words = row(
         label_of(line),
         b";c69 LED.  record %d at offset %d: reader %d, led %d\n\
@@ -58,5 +65,5 @@ pub(crate) fn show(line: Line, p: &[u8], space: &mut [u8], out: &mut [u8], from:
           ;r4B RSTATR;r76 CCRYPT;r78 RMACI;r79 BUSY;r7A FTSTAT;r80 PIVDATAR;r81 GENAUTHR;r82 CRAUTHR;r83 MFGSTATR\
           ;r84 MFGERRR;r90 MFGREP",
     );
-    answer(line, words, p, space, out, from)
+    answer(line, words, p, space, out)
 }

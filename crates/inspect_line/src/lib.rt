@@ -11,7 +11,7 @@ pub const LONGEST: usize = 65547;
 pub const WORD_SHOWN: usize = 20;
 
 // What is wrong with a line.
-#[derive(Drop)]
+#[derive(Clone, Copy)]
 pub enum Fault {
     Word,
     NoCode,
@@ -22,7 +22,7 @@ pub enum Fault {
 }
 
 // What the next byte belongs to.
-#[derive(Drop)]
+#[derive(Clone, Copy)]
 pub enum Place {
     Start,
     Word,
@@ -39,7 +39,7 @@ pub enum Place {
     Bad(Fault),
 }
 
-#[derive(Drop)]
+#[derive(Clone, Copy)]
 pub struct Line {
     // both count from 1; the column is that of the fault, once there is one
     pub number: usize,
