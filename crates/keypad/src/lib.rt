@@ -34,6 +34,7 @@ impl Keypad {
         require_head_and_tail(p, Self::WIRE_LEN, tail, Self::CODE)
     }
 
+    #[tactic(auto, using(payload_util::proofs::Guards::head_and_tail_pass))]
     pub fn decode(p: &[u8]) -> KeypadRead
         ensures { keypad_outcome result ≡ read keypad p.now }
     {
