@@ -34,6 +34,7 @@ impl FileTransfer {
         require_head_and_tail(p, Self::WIRE_LEN, u16_at(p, 9), Self::CODE)
     }
 
+    #[tactic(auto, using(payload_util::proofs::Guards::head_and_tail_pass))]
     pub fn decode(p: &[u8]) -> FileTransferRead
         ensures { file_transfer_outcome result ≡ read file_transfer p.now }
     {
@@ -62,6 +63,7 @@ impl FileTransfer {
         tail_where(Self::check(p), p, Self::WIRE_LEN)
     }
 
+    #[tactic(auto, using(payload_util::proofs::Guards::most_pass))]
     pub fn encode(self, fragment: &[u8], out: &mut [u8]) -> Written
         ensures { (result, out.new) ≡ write file_transfer self fragment.now out.old }
     {

@@ -28,6 +28,7 @@ pub enum NakErrorCodeRead {
 }
 
 impl NakErrorCode {
+    #[tactic(auto, unfolding(crate::specs::Nak::read_nak_error))]
     pub fn from_byte(b: u8) -> NakErrorCodeRead
         ensures { nak_error_outcome result ≡ read_nak_error b }
     {
@@ -93,6 +94,7 @@ impl Nak {
         Nak { error: err }
     }
 
+    #[tactic(auto, using(payload_util::proofs::Guards::least_pass))]
     pub fn decode(p: &[u8]) -> NakRead
         ensures { nak_outcome result ≡ read nak p.now }
     {

@@ -101,6 +101,7 @@ impl Text {
         Self::printable_singly(&s[8 * words..])
     }
 
+    #[tactic(auto, unfolding(crate::specs::Text::printable), using(payload_util::proofs::InOrder::start, payload_util::proofs::InOrder::more, payload_util::proofs::InOrder::stop, payload_util::proofs::InOrder::done))]
     fn printable_singly(s: &[u8]) -> bool
         ensures { require result (row 8 text_code 0 0) ≡ printable s.now }
     {
