@@ -13,6 +13,7 @@ pub(crate) fn sum(a: u8, b: u8, c: u8, d: u8, e: u8) -> u64 {
 }
 
 // The number in 31 bits, which its lowest 62 bits decide.
+#[tactic(auto, using(crate::proofs::Answered::not_negative))]
 pub(crate) fn answer(n: u64) -> i32
     ensures { NotNegative result }
 {
