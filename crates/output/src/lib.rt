@@ -13,7 +13,7 @@ use payload_util::{
 };
 
 // Table 14.
-#[derive(Drop)]
+#[derive(Clone, Copy)]
 pub enum OutputControlCode {
     Nop,
     PermanentOffAbortTimed,
@@ -34,6 +34,7 @@ impl OutputControlCode {
     const HIGHEST: u8 = 6;
 
     // Row 7 if no code has this byte.
+    #[tactic(auto, unfolding(crate::specs::Output::read_output_code))]
     pub fn from_byte(b: u8) -> OutputControlCodeRead
         ensures { output_code_outcome result ≡ read_output_code b }
     {
@@ -80,7 +81,7 @@ impl OutputControlCode {
 }
 
 // One output: its number, what it is to do, and for how long, in units of 100 ms.
-#[derive(Drop)]
+#[derive(Clone, Copy)]
 pub struct OutputRecord {
     pub output: u8,
     pub code: OutputControlCode,
