@@ -11,7 +11,7 @@ use payload_util::{
 };
 
 // Biometric type code (Table 24).
-#[derive(Drop)]
+#[derive(Clone, Copy)]
 pub enum BioType {
     NotSpecified,
     RightThumb,
@@ -91,7 +91,7 @@ impl BioType {
 }
 
 // Biometric data format (Table 25).
-#[derive(Drop)]
+#[derive(Clone, Copy)]
 pub enum BioFormat {
     NotSpecified,
     FingerprintRawPgm,

@@ -7,7 +7,7 @@ ghost use Rattle.nak.specs.Nak.{nak_outcome, nak_error_byte, nak_error_outcome, 
 use payload_util::{Guard, Refusal, Written, put_bytes, put_payload, require_at_least, tail_where};
 
 // NAK error code (Table 47).
-#[derive(Drop)]
+#[derive(Clone, Copy)]
 pub enum NakErrorCode {
     NoError,
     BadCrcOrChecksum,

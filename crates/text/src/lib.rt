@@ -10,7 +10,7 @@ use payload_util::{
 };
 
 // Table 21.
-#[derive(Drop)]
+#[derive(Clone, Copy)]
 pub enum TextCommand {
     PermanentNoWrap,
     PermanentWrap,
