@@ -43,6 +43,7 @@ impl Raw {
         require_head_and_tail(p, Self::WIRE_LEN, tail, Self::CODE)
     }
 
+    #[tactic(auto, using(payload_util::proofs::Guards::head_and_tail_pass))]
     pub fn decode(p: &[u8]) -> RawRead
         ensures { raw_outcome result ≡ read raw p.now }
     {
@@ -170,6 +171,7 @@ impl Fmt {
         require_head_and_tail(p, Self::WIRE_LEN, tail, Self::CODE)
     }
 
+    #[tactic(auto, using(payload_util::proofs::Guards::head_and_tail_pass))]
     pub fn decode(p: &[u8]) -> FmtRead
         ensures { fmt_outcome result ≡ read fmt p.now }
     {
