@@ -1,4 +1,4 @@
-use Rattle.std.proofs.Common.{◌≡◌, ◌+◌, ◌-◌, ◌<◌, ℕ, suc, length, arith, get_or, ◌∙◌}
+use Rattle.std.proofs.Common.{◌≡◌, ◌+◌, ◌-◌, ◌<◌, suc, length, arith, get_or, ◌∙◌}
 use Rattle.payload_util.proofs.Filled.{filled_more, filled_is}
 use Rattle.raw_card.proofs.Top.{top_bits, from_byte, next_bit, no_byte}
 use Rattle.raw_card.proofs.fill_bits.Goals as goal
