@@ -6,7 +6,7 @@ use Prim.Native.Nat.{ℕ, ◌≤◌, ◌<◌}
 use native.Mathlib.Omega.{arith}
 use borrow.Author.Tests.{leb-true, le-leb, lt-leb}
 use lib.ListN.{length}
-use Rattle.payload_util.specs.Refusals.{row, ◌also◌}
+use Rattle.payload_util.specs.Refusals.{row}
 use Rattle.payload_util.specs.Outcome.{Outcome, gives, refuses, outcome, guard_of}
 use Rattle.payload_util.specs.Writing.{Effect, rewrite}
 use Rattle.payload_util.specs.Loss.{within_limits}

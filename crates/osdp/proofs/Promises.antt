@@ -28,7 +28,7 @@ use Rattle.osdp.specs.declared.Lookup.TheVariants.{Carried}
 use Rattle.osdp.specs.Kinds.{form, kind_of}
 use Rattle.osdp.specs.ByCode.{longest, not_too_long, kind_for, check, strict, normalise}
 use Rattle.osdp.specs.Signed.{Short}
-use Rattle.osdp.specs.Promises.{LosesNothing, Promised, Promises}
+use Rattle.osdp.specs.Promises.{LosesNothing, Promises}
 use Rattle.osdp.proofs.Laws.{law, uncut, no_limits}
 use Rattle.osdp.proofs.Lookups.{kind_gives}
 

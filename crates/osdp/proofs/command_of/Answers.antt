@@ -1,5 +1,5 @@
 use Rattle.std.proofs.Common.{rules, refl, sym, ap, ◌∙◌}
-use Rattle.codes.specs.CommandCode.{command_outcome, read_command}
+use Rattle.codes.specs.CommandCode.{command_outcome}
 use Rattle.osdp.specs.declared.Side.TheVariants.{Command}
 use Rattle.osdp.specs.Kinds.{kind_of}
 use Rattle.osdp.proofs.Lookups.{other_code, no_code}

@@ -1,5 +1,5 @@
 use Rattle.std.proofs.Common.{rules, refl, sym, ap, ◌∙◌}
-use Rattle.codes.specs.ReplyCode.{reply_outcome, read_reply}
+use Rattle.codes.specs.ReplyCode.{reply_outcome}
 use Rattle.osdp.specs.declared.Side.TheVariants.{Reply}
 use Rattle.osdp.specs.Kinds.{kind_of}
 use Rattle.osdp.proofs.Lookups.{other_code, no_code}
