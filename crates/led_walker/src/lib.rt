@@ -5,7 +5,7 @@ ghost use Rattle.std.specs.Prelude.{◌≡◌};
 ghost use Rattle.led_walker.specs.Walk.{start_led, started_led, offset_after, moved_led, stepped};
 
 use led::{LedRecord, LedStep};
-use payload_util::{Guard, tail_from, tail_where};
+use payload_util::{Guard, tail_from};
 
 #[derive(Drop)]
 pub struct LedWalker<'a> {
@@ -42,8 +42,15 @@ impl<'a> LedWalker<'a> {
         ensures { (result.payload.now, result.offset, result.checked) ≡ start_led payload.now }
     {
         let checked = LedRecord::check(payload);
+        let Guard::Pass = checked else {
+            return LedStart {
+                payload: &payload[..0],
+                offset: 0,
+                checked,
+            };
+        };
         LedStart {
-            payload: tail_where(checked, payload, 0),
+            payload,
             offset: 0,
             checked,
         }
