@@ -86,7 +86,7 @@ fn moved_at(payload: &[u8], offset: usize) -> LedMoved
     }
 }
 
-// What starting gives, as a plain result, so that callers need no proof by hand.
+// What starting gives, in plain values.
 pub fn started(payload: &[u8]) -> LedStarted
     ensures { result ≡ started_led payload.now }
 {
@@ -98,7 +98,7 @@ pub fn started(payload: &[u8]) -> LedStarted
     }
 }
 
-// A step of a walker made at an offset, with plain parameters, so that callers need no proof by hand.
+// A step of a walker made at an offset, with plain parameters.
 pub fn step_at(payload: &[u8], offset: usize) -> LedMoved
     ensures { result ≡ moved_led payload.now offset }
 {

@@ -82,9 +82,11 @@ module _ {X : Type 0} (bytes : X → List ℕ) (size : ℕ) (fixed : (x : X) →
         let s : length r ≡ size = fixed (get_or xs k none) in
         let next : flat bytes (take (suc k) xs) ≡ p ++ (r ++ []) =
         ap (flat bytes) (take-suc xs k none h) ∙ flat_append (take k xs) (get_or xs k none ∷ []) in
-        let rest : drop (k * size + size) (state bytes size xs o k) ≡ drop (k * size + size) o =
-        ap (λ (n : ℕ). drop (n + size) (state bytes size xs o k)) (sym e) ∙ drop-append-add p (drop (k * size) o) size ∙ drop-drop size (k * size) o in
-        let fits : k * size + size ≤ length (state bytes size xs o k) = omega (arith, state_length f k (omega arith), mul-le-mul_right size h, suc-mul k size) in
+        let now : List ℕ = state bytes size xs o k in
+        let rest : drop (k * size + size) now ≡ drop (k * size + size) o =
+        ap (λ (n : ℕ). drop (n + size) now) (sym e) ∙ drop-append-add p (drop (k * size) o) size ∙ drop-drop size (k * size) o in
+        let fits : k * size + size ≤ length now =
+        omega (arith, state_length f k (omega arith), mul-le-mul_right size h, suc-mul k size) in
         simp (
           s,
           pass_room code (k * size + size) (length (state bytes size xs o k)) fits,

@@ -1,10 +1,10 @@
--- The bytes are put at the front of the part that starts at the offset, which has room for them.
+-- The bytes are put at the front of the part that starts at the offset, which has room for them: a slice's length is below the largest usize,
+-- so the need is not capped where it fits.
 use Rattle.std.proofs.Common.{arith, ◌+◌, length}
 use Rattle.payload_util.proofs.Guards.{passed, refused, room_pass, room_capped}
 use Rattle.lists.proofs.State.{placed}
 use Rattle.lists.proofs.put_at.Goals as goal
 
--- a slice's length is below the cap
 pub returns-in_default : goal.returns-in_default
 returns-in_default c =
     let a = c.args in
