@@ -12,10 +12,8 @@ use Rattle.payload_util.specs.Refusals.{row}
 use Rattle.payload_util.specs.Bytes.{byte_at}
 use Rattle.payload_util.specs.Guards.{at_least}
 use Rattle.payload_util.specs.Loss.{without}
-use Rattle.payload_util.specs.Outcome.{Outcome, gives, refuses, outcome, guard_of}
+use Rattle.payload_util.specs.Outcome.{gives}
 use Rattle.payload_util.specs.Form.{loss, check}
-use Rattle.payload_util.specs.declared.Guard.{Guard}
-use Rattle.payload_util.specs.declared.Guard.TheVariants.{Pass, Refused}
 use Rattle.payload_util.proofs.Guards.{also_pass, least_pass, pass_least}
 use Rattle.payload_util.proofs.Table.{exact, exact_value}
 use Rattle.payload_util.proofs.Parts.{by_head}
