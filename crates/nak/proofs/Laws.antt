@@ -45,11 +45,7 @@ pub nak_error_exact : (b : ℕ) (c : NakErrorCode) → read_nak_error b ≡ give
 unfolding read_nak_error
 nak_error_exact b c = exact nak_error_byte (row 10 nak_code 0 0) nak_errors b c
 
--- reading keeps an empty payload as it is; after the first byte it keeps the completion codes
-pub kept_none : (p : List ℕ) → length p ≡ 0 → p ≡ without (loss nak) p
-kept_none [] h = refl
-kept_none (b ∷ p) h = absurd (omega arith)
-
+-- after the first byte reading keeps the completion codes
 kept_rest : (t : Bool) (p : List ℕ) → drop 1 (cond t p (take 1 p)) ≡ cond t (drop 1 p) []
 kept_rest true p = refl
 kept_rest false [] = refl
