@@ -43,7 +43,7 @@ pub(crate) fn outputs(f: &[u8], out: &mut [u8]) -> Written {
     lend_outputs(list, n, out)
 }
 
-// Writes the first n records. The parameters are plain values, so that callers need no proof by hand.
+// Writes the first n records.
 fn lend_leds(list: [LedRecord; MOST], n: usize, out: &mut [u8]) -> Written
     requires { n ≤ 1024 }
     ensures { (result, out.new) ≡ write leds (take n list) out.old }
