@@ -45,8 +45,7 @@ fn walks(p: &[u8], place: usize, want: &[u8]) -> bool {
     n * LED_BYTES == want.len() && steps(p, place, n + MORE, want)
 }
 
-// The bytes that starting hands over. Proved by hand, and so is `steps`: they have a struct that holds a slice. Their parameters are plain values,
-// so that callers need no proof by hand.
+// The bytes that starting hands over.
 fn handed(p: &[u8]) -> &[u8]
     ensures { result.now ≡ tail_where (check leds p.now) p.now }
 {
