@@ -81,9 +81,7 @@ fn right(
 ) -> bool {
     let n = want.len() / LED_BYTES;
     if n <= k {
-        return is_right
-            && offset == place.wrapping_add(n * LED_BYTES)
-            && hands_out(step, &[]);
+        return is_right && offset == place.wrapping_add(n * LED_BYTES) && hands_out(step, &[]);
     }
     let at = k * LED_BYTES;
     is_right
