@@ -1,6 +1,5 @@
 // Frames: a frame that is read, one that is written, and the CRC alone.
-ghost use Rattle.std.specs.Prelude.{pos};
-ghost use Rattle.payload_util.specs.Prelude.{◌≡◌, ◌≤◌};
+ghost use Rattle.std.specs.Prelude.{pos, ◌≡◌, ◌≤◌};
 ghost use Rattle.crc.specs.Crc.{crc_of};
 ghost use Rattle.frame.specs.Examples.{frame};
 ghost use Rattle.frame.specs.Frame.{check_frame, write_frame};

@@ -1,6 +1,7 @@
 -- osdp_BIOREADR (0x57), R4.10, §7.14: reader, type, format, quality, length u16, sample. This is the layout of BIOMATCH.
 -- osdp_BIOMATCHR (0x58), R4.11, §7.15: reader, result, score.
-use Rattle.payload_util.specs.Prelude.{[], ◌∷◌, byte_at, exact_len, nothing, Outcome, gives, refuses, Form, fixed}
+use Rattle.std.specs.Prelude.{[], ◌∷◌}
+use Rattle.payload_util.specs.Prelude.{byte_at, exact_len, nothing, Outcome, gives, refuses, Form, fixed}
 use Rattle.payload_util.specs.declared.Guard.TheVariants.{Pass}
 use Rattle.biometric.specs.Biometric.{templated}
 use Rattle.bio.specs.declared.{BioReadR.BioReadR, BioReadRRead.BioReadRRead, BioMatchR.BioMatchR, BioMatchRRead.BioMatchRRead}

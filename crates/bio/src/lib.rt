@@ -1,7 +1,8 @@
 // osdp_BIOREADR (0x57), the biometric sample that was taken, and osdp_BIOMATCHR (0x58), the outcome of a match.
 #![tactic(auto)]
 
-ghost use Rattle.payload_util.specs.Prelude.{◌≡◌, ◌≤◌, length, check, fields, read, tail, write, normalise};
+ghost use Rattle.std.specs.Prelude.{◌≡◌, ◌≤◌, length};
+ghost use Rattle.payload_util.specs.Prelude.{check, fields, read, tail, write, normalise};
 ghost use Rattle.bio.specs.Bio.{bio_read_r_outcome, bio_match_r_outcome, bio_read_r, bio_match_r};
 
 use biometric::{BioHead, BioHeadRead};

@@ -1,6 +1,7 @@
 -- osdp_BIOREAD (0x73), R4.4, §6.14: reader, type, format, quality.
 -- osdp_BIOMATCH (0x74), R4.5, §6.15: the same four fields, length u16, template.
-use Rattle.payload_util.specs.Prelude.{List, [], ◌∷◌, ◌++◌, ℕ, length, drop, byte_at, u16_at, u16_bytes, exact_len, head_and_tail, at_most}
+use Rattle.std.specs.Prelude.{List, [], ◌∷◌, ◌++◌, ℕ, length, drop}
+use Rattle.payload_util.specs.Prelude.{byte_at, u16_at, u16_bytes, exact_len, head_and_tail, at_most}
 use Rattle.payload_util.specs.Prelude.{named, Keep, any, up_to, Loss, above, Outcome, gives, refuses, Form, fixed, tailed}
 use Rattle.payload_util.specs.declared.{Guard.Guard, Guard.TheVariants.Pass}
 use Rattle.biometric.specs.declared.{BioHead.BioHead, BioRead.BioRead, BioMatch.BioMatch}

@@ -1,7 +1,8 @@
 // osdp_BIOREAD (0x73), take a biometric sample, and osdp_BIOMATCH (0x74), match a sample with a template.
 #![tactic(auto)]
 
-ghost use Rattle.payload_util.specs.Prelude.{◌≡◌, ◌≤◌, length, put_checked, without, within_limits, check, read, tail, write, normalise};
+ghost use Rattle.std.specs.Prelude.{◌≡◌, ◌≤◌, length};
+ghost use Rattle.payload_util.specs.Prelude.{put_checked, without, within_limits, check, read, tail, write, normalise};
 ghost use Rattle.biometric.specs.Biometric.{bio_type_byte, bio_type_of, bio_format_byte, bio_format_of};
 ghost use Rattle.biometric.specs.Biometric.{head_outcome, bio_read_outcome, bio_match_outcome, head_of, head_bytes, bio_loss, check_template, headed, bio_read, bio_match};
 

@@ -1,7 +1,8 @@
 // osdp_FILETRANSFER (0x7C): a file for the PD, a fragment at a time.
 #![tactic(auto)]
 
-ghost use Rattle.payload_util.specs.Prelude.{◌≡◌, ◌≤◌, length, check, fields, read, tail, write, normalise};
+ghost use Rattle.std.specs.Prelude.{◌≡◌, ◌≤◌, length};
+ghost use Rattle.payload_util.specs.Prelude.{check, fields, read, tail, write, normalise};
 ghost use Rattle.file_transfer.specs.FileTransfer.{file_transfer_outcome, file_transfer};
 
 use payload_util::{

@@ -1,6 +1,6 @@
 -- Frames with their answers: published ones, one for each refusal, and pairs of faults of which the earlier row is given.
-use Rattle.std.specs.Prelude.{Bool, true, false, replicate}
-use Rattle.payload_util.specs.Prelude.{◌≡◌, List, [], ◌∷◌, ◌++◌, ℕ, row, gives, refuses}
+use Rattle.std.specs.Prelude.{Bool, true, false, replicate, ◌≡◌, List, [], ◌∷◌, ◌++◌, ℕ}
+use Rattle.payload_util.specs.Prelude.{row, gives, refuses}
 use Rattle.payload_util.specs.declared.{Refusal.Refusal}
 use Rattle.payload_util.specs.declared.Written.TheVariants.{Wrote, Refused}
 use Rattle.frame.specs.declared.Frame.{Frame}

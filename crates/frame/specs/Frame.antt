@@ -1,6 +1,6 @@
 -- A frame (R102): 0x53, address, whole length u16, control, code, payload, check.
-use Rattle.std.specs.Prelude.{Bool, ◌-◌}
-use Rattle.payload_util.specs.Prelude.{List, [], ◌∷◌, ◌++◌, ℕ, ◌+◌, ◌/◌, ◌%◌, cond, length, take, drop, eqb, leb, ltb, byte_at, u16_at, u16_bytes, row, require, ◌also◌}
+use Rattle.std.specs.Prelude.{Bool, ◌-◌, List, [], ◌∷◌, ◌++◌, ℕ, ◌+◌, ◌/◌, ◌%◌, cond, length, take, drop, eqb, leb, ltb}
+use Rattle.payload_util.specs.Prelude.{byte_at, u16_at, u16_bytes, row, require, ◌also◌}
 use Rattle.payload_util.specs.Prelude.{Outcome, gives, refuses, outcome, guard_of, tail_where, Effect, put_checked}
 use Rattle.payload_util.specs.Guards.{at_least, declared_len}
 use Rattle.payload_util.specs.declared.Guard.{Guard}

@@ -1,7 +1,7 @@
 -- The theorems of frames.
 use Rattle.payload_util.specs.{Bytes.Bytes, Writing.Leaves}
-use Rattle.std.specs.Prelude.{◌⊎◌}
-use Rattle.payload_util.specs.Prelude.{◌≡◌, List, ℕ, ◌≤◌, take, byte_at, row, gives, refuses, put}
+use Rattle.std.specs.Prelude.{◌⊎◌, ◌≡◌, List, ℕ, ◌≤◌, take}
+use Rattle.payload_util.specs.Prelude.{byte_at, row, gives, refuses, put}
 use Rattle.payload_util.specs.declared.{Refusal.Refusal}
 use Rattle.payload_util.specs.declared.Written.TheVariants.{Wrote, Refused as NotWritten}
 use Rattle.frame.specs.declared.Frame.{Frame}

@@ -1,7 +1,7 @@
 // The frame round a payload: 0x53, address, whole length u16, control, code, payload, check.
 #![tactic(auto)]
 
-ghost use Rattle.payload_util.specs.Prelude.{◌≡◌, ◌++◌, ◌+◌, ◌≤◌, ◌<◌, cond, length};
+ghost use Rattle.std.specs.Prelude.{◌≡◌, ◌++◌, ◌+◌, ◌≤◌, ◌<◌, cond, length};
 ghost use Rattle.frame.specs.Frame.{known_code, check_len, check_over, right_check, front, control, check_frame, fields_of, frame_outcome, read_frame, payload_in, frame_payload, head_bytes, refuse_frame, write_frame};
 
 use codes::{CommandCode, CommandCodeRead, ReplyCode, ReplyCodeRead};

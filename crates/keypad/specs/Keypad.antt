@@ -1,5 +1,6 @@
 -- osdp_KEYPAD (0x53), R101.1, §7.12: reader, count, and that many digits.
-use Rattle.payload_util.specs.Prelude.{◌∷◌, drop, byte_at, head_and_tail, tail_len, nothing, Outcome, gives, refuses, Form, tailed}
+use Rattle.std.specs.Prelude.{◌∷◌, drop}
+use Rattle.payload_util.specs.Prelude.{byte_at, head_and_tail, tail_len, nothing, Outcome, gives, refuses, Form, tailed}
 use Rattle.keypad.specs.declared.{Keypad.Keypad, KeypadRead.KeypadRead, KeypadRead.TheVariants.Read, KeypadRead.TheVariants.Refused}
 
 abbrev pub keypad_outcome : KeypadRead → Outcome Keypad

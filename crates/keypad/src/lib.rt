@@ -1,7 +1,8 @@
 // osdp_KEYPAD (0x53): digits that were typed at a reader.
 #![tactic(auto)]
 
-ghost use Rattle.payload_util.specs.Prelude.{◌≡◌, ◌≤◌, length, check, fields, read, tail, write, normalise};
+ghost use Rattle.std.specs.Prelude.{◌≡◌, ◌≤◌, length};
+ghost use Rattle.payload_util.specs.Prelude.{check, fields, read, tail, write, normalise};
 ghost use Rattle.keypad.specs.Keypad.{keypad_outcome, keypad};
 
 use payload_util::{

@@ -1,6 +1,7 @@
 -- osdp_LED (0x69), R4.1, §6.9, Tables 16 to 18: records of 14 bytes. Reader and LED; temporary control, on time, off time, on colour, off colour
 -- and timer u16; permanent control, on time, off time, on colour and off colour.
-use Rattle.payload_util.specs.Prelude.{List, [], ◌∷◌, ◌++◌, ℕ, cond, ltb, length, drop, byte_at, u16_at, u16_bytes, positive_multiple_of}
+use Rattle.std.specs.Prelude.{List, [], ◌∷◌, ◌++◌, ℕ, cond, ltb, length, drop}
+use Rattle.payload_util.specs.Prelude.{byte_at, u16_at, u16_bytes, positive_multiple_of}
 use Rattle.payload_util.specs.Prelude.{named, Keep, any, up_to, Loss, above_in_each, Outcome, gives, refuses, Form, listed}
 use Rattle.led.specs.declared.{LedColor.LedColor, LedTemporary.LedTemporary, LedPermanent.LedPermanent, LedRecord.LedRecord}
 use Rattle.led.specs.declared.{LedRead.LedRead, LedRead.TheVariants.Read, LedRead.TheVariants.Refused}

@@ -1,7 +1,8 @@
 // osdp_LED (0x69), reader LED control: a list of records, each with a temporary and a permanent half.
 #![tactic(auto)]
 
-ghost use Rattle.payload_util.specs.Prelude.{◌≡◌, ◌*◌, ◌/◌, ◌≤◌, ◌<◌, length, take, in_order, keep, times, limited, within_limits, check, read, write, normalise};
+ghost use Rattle.std.specs.Prelude.{◌≡◌, ◌*◌, ◌/◌, ◌≤◌, ◌<◌, length, take};
+ghost use Rattle.payload_util.specs.Prelude.{in_order, keep, times, limited, within_limits, check, read, write, normalise};
 ghost use Rattle.lists.specs.List.{put_at};
 ghost use Rattle.led.specs.Led.{color_byte, color_of, highest_color};
 ghost use Rattle.led.specs.Led.{temporary_of, permanent_of, led_of, led_outcome, led_bytes, led_code, step_led, led_limits, led_loss, leds};

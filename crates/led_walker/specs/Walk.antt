@@ -1,5 +1,6 @@
 -- Walking an LED payload record by record (R5.2): what starting gives, what a step does, and what n steps hand out.
-use Rattle.payload_util.specs.Prelude.{List, [], ◌∷◌, ℕ, zero, suc, ◌+◌, cond, ltb, length, drop, tail_where, check}
+use Rattle.std.specs.Prelude.{List, [], ◌∷◌, ℕ, zero, suc, ◌+◌, cond, ltb, length, drop}
+use Rattle.payload_util.specs.Prelude.{tail_where, check}
 use Rattle.payload_util.specs.declared.Guard.{Guard}
 use Rattle.led.specs.Led.{leds, step_led}
 use Rattle.led.specs.declared.LedStep.{LedStep}

@@ -1,5 +1,6 @@
 -- osdp_MFG (0x80), R4.7, §6.22: the vendor's OUI of three bytes, and data.
-use Rattle.payload_util.specs.Prelude.{◌∷◌, drop, byte_at, at_least, nothing, Outcome, gives, refuses, Form, tailed}
+use Rattle.std.specs.Prelude.{◌∷◌, drop}
+use Rattle.payload_util.specs.Prelude.{byte_at, at_least, nothing, Outcome, gives, refuses, Form, tailed}
 use Rattle.payload_util.specs.declared.Guard.TheVariants.{Pass}
 use Rattle.mfg.specs.declared.{Mfg.Mfg, MfgRead.MfgRead, MfgRead.TheVariants.Read, MfgRead.TheVariants.Refused}
 

@@ -1,7 +1,8 @@
 // osdp_MFG (0x80), manufacturer-specific command: the vendor's OUI, and data that only the vendor reads.
 #![tactic(auto)]
 
-ghost use Rattle.payload_util.specs.Prelude.{◌≡◌, ◌≤◌, length, check, fields, read, tail, write, normalise};
+ghost use Rattle.std.specs.Prelude.{◌≡◌, ◌≤◌, length};
+ghost use Rattle.payload_util.specs.Prelude.{check, fields, read, tail, write, normalise};
 ghost use Rattle.mfg.specs.Mfg.{mfg_outcome, mfg};
 
 use payload_util::{Guard, Refusal, Written, put_bytes, put_payload, require_at_least, tail_where};

@@ -1,5 +1,6 @@
 -- osdp_NAK (0x41), R4.12, §7.3: the error of Table 47, and completion codes. They are read with one error only, and written with every error.
-use Rattle.payload_util.specs.Prelude.{List, [], ◌∷◌, ℕ, cond, eqb, drop, byte_at, row, ◌also◌, at_least, named}
+use Rattle.std.specs.Prelude.{List, [], ◌∷◌, ℕ, cond, eqb, drop}
+use Rattle.payload_util.specs.Prelude.{byte_at, row, ◌also◌, at_least, named}
 use Rattle.payload_util.specs.Prelude.{Outcome, gives, refuses, guard_of, value_or, rest_unless, Form, tailed}
 use Rattle.payload_util.specs.declared.Guard.TheVariants.{Pass}
 use Rattle.nak.specs.declared.NakErrorCode.TheVariants.{NoError, BadCrcOrChecksum, CommandLengthError, UnknownCommandCode, UnexpectedSequenceNumber, SecurityBlockTypeNotSupported, EncryptedCommunicationRequired, BioTypeNotSupported, BioFormatNotSupported, UnableToProcessCommandRecord}

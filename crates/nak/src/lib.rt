@@ -1,7 +1,8 @@
 // osdp_NAK (0x41), the reply to a command that was not accepted: an error, and with one of the errors completion codes.
 #![tactic(auto)]
 
-ghost use Rattle.payload_util.specs.Prelude.{◌≡◌, without, loss, check, read, tail, write, normalise};
+ghost use Rattle.std.specs.Prelude.{◌≡◌};
+ghost use Rattle.payload_util.specs.Prelude.{without, loss, check, read, tail, write, normalise};
 ghost use Rattle.nak.specs.Nak.{nak_outcome, nak_error_byte, nak_error_outcome, read_nak_error, nak};
 
 use payload_util::{Guard, Refusal, Written, put_bytes, put_payload, require_at_least, tail_where};

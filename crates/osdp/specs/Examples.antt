@@ -1,6 +1,6 @@
 -- Examples beside the starred ones: each is what docs/REQUIREMENTS.md says, and is proved of the definitions.
-use Rattle.std.specs.Prelude.{replicate, pos, negsuc}
-use Rattle.payload_util.specs.Prelude.{List, [], ◌∷◌, row}
+use Rattle.std.specs.Prelude.{replicate, pos, negsuc, List, [], ◌∷◌}
+use Rattle.payload_util.specs.Prelude.{row}
 use Rattle.payload_util.specs.declared.Guard.TheVariants.{Pass, Refused}
 use Rattle.payload_util.specs.declared.Written.TheVariants.{Wrote, Refused as NotWritten}
 use Rattle.led.specs.declared.{LedRecord.LedRecord, LedColor.TheVariants.Green, LedColor.TheVariants.Amber, LedColor.TheVariants.Cyan, LedColor.TheVariants.White}

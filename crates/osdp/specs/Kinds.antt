@@ -1,5 +1,6 @@
 -- The twenty kinds (R2.5, R101): the row of each, and the kind that a code byte names.
-use Rattle.payload_util.specs.Prelude.{List, [], ◌∷◌, ℕ, row, named, Outcome, gives, refuses, guard_of, Form, code}
+use Rattle.std.specs.Prelude.{List, [], ◌∷◌, ℕ}
+use Rattle.payload_util.specs.Prelude.{row, named, Outcome, gives, refuses, guard_of, Form, code}
 use Rattle.payload_util.specs.declared.{Guard.Guard, Guard.TheVariants.Pass, Guard.TheVariants.Refused}
 use Rattle.codes.specs.{CommandCode.read_command, ReplyCode.read_reply}
 use Rattle.led.specs.Led.{leds}

@@ -1,6 +1,6 @@
 -- The starred payloads of R8.1, as one list.
-use Rattle.std.specs.Prelude.{◌-◌, replicate, ℤ}
-use Rattle.payload_util.specs.Prelude.{◌≡◌, List, [], ◌∷◌, ◌++◌, ℕ, length, row, refuses, Form, fixed, tailed, listed, read, Effect}
+use Rattle.std.specs.Prelude.{◌-◌, replicate, ℤ, ◌≡◌, List, [], ◌∷◌, ◌++◌, ℕ, length}
+use Rattle.payload_util.specs.Prelude.{row, refuses, Form, fixed, tailed, listed, read, Effect}
 use Rattle.payload_util.specs.Form.{Record, ReadsAs, written, normalise as normalise_of}
 use Rattle.payload_util.specs.declared.{Refusal.Refusal, Guard.Guard, Guard.TheVariants.Pass, Guard.TheVariants.Refused}
 use Rattle.payload_util.specs.declared.Written.{Written}

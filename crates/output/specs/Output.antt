@@ -1,5 +1,6 @@
 -- osdp_OUT (0x68), R4.2, §6.8, Table 14: records of four bytes. Output, code and timer u16.
-use Rattle.payload_util.specs.Prelude.{List, [], ◌∷◌, ℕ, ◌+◌, ◌*◌, ◌/◌, length, byte_at, u16_at, u16_bytes, row, ◌also◌, at_least, positive_multiple_of, in_order}
+use Rattle.std.specs.Prelude.{List, [], ◌∷◌, ℕ, ◌+◌, ◌*◌, ◌/◌, length}
+use Rattle.payload_util.specs.Prelude.{byte_at, u16_at, u16_bytes, row, ◌also◌, at_least, positive_multiple_of, in_order}
 use Rattle.payload_util.specs.Prelude.{named, Outcome, gives, refuses, outcome, guard_of, value_or, nothing, Form, listed}
 use Rattle.payload_util.specs.declared.Guard.{Guard}
 use Rattle.output.specs.declared.OutputControlCode.TheVariants.{Nop, PermanentOffAbortTimed, PermanentOnAbortTimed, PermanentOffAllowTimed, PermanentOnAllowTimed, TemporaryOnResume, TemporaryOffResume}

@@ -1,8 +1,8 @@
 // osdp_OUT (0x68), output control: a list of records, one for each output to drive.
 #![tactic(auto)]
 
-ghost use Rattle.std.specs.Prelude.{true};
-ghost use Rattle.payload_util.specs.Prelude.{◌≡◌, ◌+◌, ◌*◌, ◌/◌, ◌≤◌, length, drop, in_order, guard_of, check, read, write, normalise};
+ghost use Rattle.std.specs.Prelude.{true, ◌≡◌, ◌+◌, ◌*◌, ◌/◌, ◌≤◌, length, drop};
+ghost use Rattle.payload_util.specs.Prelude.{in_order, guard_of, check, read, write, normalise};
 ghost use Rattle.lists.specs.List.{put_at};
 ghost use Rattle.output.specs.Output.{out_outcome, out_code, output_byte, read_output_code, output_code_outcome, code_known, codes_known, read_out_at, out_bytes, outputs};
 

@@ -1,5 +1,6 @@
 -- osdp_COMSET (0x6E), R101.2, §6.13, and osdp_COM (0x54), R101.3, §7.13: address, baud rate u32. Both have one layout.
-use Rattle.payload_util.specs.Prelude.{ℕ, ◌∷◌, byte_at, u32_at, u32_bytes, Outcome, gives, refuses, Form}
+use Rattle.std.specs.Prelude.{ℕ, ◌∷◌}
+use Rattle.payload_util.specs.Prelude.{byte_at, u32_at, u32_bytes, Outcome, gives, refuses, Form}
 use Rattle.plain.specs.Exact.{exact}
 use Rattle.plain.specs.declared.{comset.ComSet.ComSet, comset.ComSetRead.ComSetRead, com.Com.Com, com.ComRead.ComRead}
 use Rattle.plain.specs.declared.comset.ComSetRead.TheVariants.{Read as SetRead, Refused as SetRefused}

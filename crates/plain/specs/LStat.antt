@@ -1,5 +1,6 @@
 -- osdp_LSTATR (0x48), R101.5, §7.6: tamper, power.
-use Rattle.payload_util.specs.Prelude.{[], ◌∷◌, byte_at, Outcome, gives, refuses, Form}
+use Rattle.std.specs.Prelude.{[], ◌∷◌}
+use Rattle.payload_util.specs.Prelude.{byte_at, Outcome, gives, refuses, Form}
 use Rattle.plain.specs.Exact.{exact}
 use Rattle.plain.specs.declared.{lstat.LStatR.LStatR, lstat.LStatRRead.LStatRRead}
 use Rattle.plain.specs.declared.lstat.LStatRRead.TheVariants.{Read, Refused}

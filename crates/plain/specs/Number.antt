@@ -1,6 +1,7 @@
 -- osdp_ACURXSIZE (0x7B), R101.6, §6.19: the largest packet that the panel takes, u16. osdp_KEEPACTIVE (0xA7), R101.7, §6.27: milliseconds, u16.
 -- Both have one layout.
-use Rattle.payload_util.specs.Prelude.{ℕ, u16_at, u16_bytes, Outcome, gives, refuses, Form}
+use Rattle.std.specs.Prelude.{ℕ}
+use Rattle.payload_util.specs.Prelude.{u16_at, u16_bytes, Outcome, gives, refuses, Form}
 use Rattle.plain.specs.Exact.{exact}
 use Rattle.plain.specs.declared.{acu_rx_size.AcuRxSize.AcuRxSize, acu_rx_size.AcuRxSizeRead.AcuRxSizeRead}
 use Rattle.plain.specs.declared.acu_rx_size.AcuRxSizeRead.TheVariants.{Read as SizeRead, Refused as SizeRefused}

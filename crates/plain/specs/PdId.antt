@@ -1,5 +1,6 @@
 -- osdp_PDID (0x45), R101.4, §7.4: the vendor's OUI of 3 bytes, model, version, serial number u32, and the firmware's major, minor and build number.
-use Rattle.payload_util.specs.Prelude.{[], ◌∷◌, ◌++◌, byte_at, u32_at, u32_bytes, Outcome, gives, refuses, Form}
+use Rattle.std.specs.Prelude.{[], ◌∷◌, ◌++◌}
+use Rattle.payload_util.specs.Prelude.{byte_at, u32_at, u32_bytes, Outcome, gives, refuses, Form}
 use Rattle.plain.specs.Exact.{exact}
 use Rattle.plain.specs.declared.{pdid.PdId.PdId, pdid.PdIdRead.PdIdRead, pdid.PdIdRead.TheVariants.Read, pdid.PdIdRead.TheVariants.Refused}
 

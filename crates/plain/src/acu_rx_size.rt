@@ -1,5 +1,6 @@
 // osdp_ACURXSIZE (0x7B): the largest packet that the panel can receive.
-ghost use Rattle.payload_util.specs.Prelude.{◌≡◌, u16_bytes, put, check, read, write, normalise};
+ghost use Rattle.std.specs.Prelude.{◌≡◌};
+ghost use Rattle.payload_util.specs.Prelude.{u16_bytes, put, check, read, write, normalise};
 ghost use Rattle.plain.specs.Number.{acu_rx_size_outcome, acu_rx_size};
 
 use payload_util::{

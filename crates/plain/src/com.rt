@@ -1,5 +1,6 @@
 // osdp_COM (0x54): the address and the baud rate of a reader.
-ghost use Rattle.payload_util.specs.Prelude.{◌≡◌, ◌∷◌, u32_bytes, put, check, read, write, normalise};
+ghost use Rattle.std.specs.Prelude.{◌≡◌, ◌∷◌};
+ghost use Rattle.payload_util.specs.Prelude.{u32_bytes, put, check, read, write, normalise};
 ghost use Rattle.plain.specs.Com.{com_outcome, com_reply};
 
 use payload_util::{

@@ -1,5 +1,6 @@
 // osdp_COMSET (0x6E): the address and the baud rate that a reader is to take. The layout is that of COM.
-ghost use Rattle.payload_util.specs.Prelude.{◌≡◌, check, read, write, normalise};
+ghost use Rattle.std.specs.Prelude.{◌≡◌};
+ghost use Rattle.payload_util.specs.Prelude.{check, read, write, normalise};
 ghost use Rattle.plain.specs.Com.{com_set_outcome, com_set};
 
 use crate::com::put_address_and_baud;

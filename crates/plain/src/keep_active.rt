@@ -1,5 +1,6 @@
 // osdp_KEEPACTIVE (0xA7): for how many milliseconds a reader is to stay active. The layout is that of ACURXSIZE.
-ghost use Rattle.payload_util.specs.Prelude.{◌≡◌, check, read, write, normalise};
+ghost use Rattle.std.specs.Prelude.{◌≡◌};
+ghost use Rattle.payload_util.specs.Prelude.{check, read, write, normalise};
 ghost use Rattle.plain.specs.Number.{keep_active_outcome, keep_active};
 
 use crate::acu_rx_size::put_number;

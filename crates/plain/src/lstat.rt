@@ -1,5 +1,6 @@
 // osdp_LSTATR (0x48), local status: tamper switch and power of a reader.
-ghost use Rattle.payload_util.specs.Prelude.{◌≡◌, check, read, write, normalise};
+ghost use Rattle.std.specs.Prelude.{◌≡◌};
+ghost use Rattle.payload_util.specs.Prelude.{check, read, write, normalise};
 ghost use Rattle.plain.specs.LStat.{l_stat_r_outcome, l_stat_r};
 
 use payload_util::{Guard, Refusal, Written, byte_at, put_bytes, put_payload, require_exact_len};

@@ -1,5 +1,6 @@
 // osdp_PDID (0x45): who made a reader, which one it is, and its firmware.
-ghost use Rattle.payload_util.specs.Prelude.{◌≡◌, check, read, write, normalise};
+ghost use Rattle.std.specs.Prelude.{◌≡◌};
+ghost use Rattle.payload_util.specs.Prelude.{check, read, write, normalise};
 ghost use Rattle.plain.specs.PdId.{pd_id_outcome, pd_id};
 
 use payload_util::{

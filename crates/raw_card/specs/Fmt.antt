@@ -1,5 +1,6 @@
 -- osdp_FMT (0x51), R4.9, §7.11: reader, direction, count, and that many characters.
-use Rattle.payload_util.specs.Prelude.{◌∷◌, drop, byte_at, head_and_tail, tail_len, nothing, Outcome, gives, refuses, Form, tailed}
+use Rattle.std.specs.Prelude.{◌∷◌, drop}
+use Rattle.payload_util.specs.Prelude.{byte_at, head_and_tail, tail_len, nothing, Outcome, gives, refuses, Form, tailed}
 use Rattle.raw_card.specs.declared.{Fmt.Fmt, FmtRead.FmtRead, FmtRead.TheVariants.Read, FmtRead.TheVariants.Refused}
 
 abbrev pub fmt_outcome : FmtRead → Outcome Fmt

@@ -1,7 +1,8 @@
 // osdp_RAW (0x50) and osdp_FMT (0x51): card data as bits and as characters.
 #![tactic(auto)]
 
-ghost use Rattle.payload_util.specs.Prelude.{◌≡◌, ◌++◌, ◌*◌, ◌≤◌, min, length, take, drop, check, fields, read, tail, write, normalise};
+ghost use Rattle.std.specs.Prelude.{◌≡◌, ◌++◌, ◌*◌, ◌≤◌, min, length, take, drop};
+ghost use Rattle.payload_util.specs.Prelude.{check, fields, read, tail, write, normalise};
 ghost use Rattle.raw_card.specs.Raw.{bytes_for, raw_outcome, raw, all_bits, write_bits};
 ghost use Rattle.raw_card.specs.Fmt.{fmt_outcome, fmt};
 

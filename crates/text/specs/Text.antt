@@ -1,6 +1,6 @@
 -- osdp_TEXT (0x6B), R4.3, §6.12, Tables 21 and 22: reader, command, time, row, column, length, and so many bytes of text.
-use Rattle.std.specs.Prelude.{◌&&◌}
-use Rattle.payload_util.specs.Prelude.{◌≡◌, List, [], ◌∷◌, ℕ, zero, suc, ◌/◌, ◌%◌, leb, length, drop, byte_at, row, require, ◌also◌, head_and_tail, at_most, in_order}
+use Rattle.std.specs.Prelude.{◌&&◌, ◌≡◌, List, [], ◌∷◌, ℕ, zero, suc, ◌/◌, ◌%◌, leb, length, drop}
+use Rattle.payload_util.specs.Prelude.{byte_at, row, require, ◌also◌, head_and_tail, at_most, in_order}
 use Rattle.payload_util.specs.Prelude.{named, Outcome, gives, refuses, guard_of, value_or, nothing, Form, tailed}
 use Rattle.payload_util.specs.declared.Guard.{Guard}
 use Rattle.text.specs.declared.{Text.Text, TextRead.TextRead, TextRead.TheVariants.Read, TextRead.TheVariants.Refused}

@@ -1,7 +1,8 @@
 // osdp_TEXT (0x6B): text for a reader's display.
 #![tactic(auto)]
 
-ghost use Rattle.payload_util.specs.Prelude.{◌≡◌, ◌≤◌, length, take, row, require, check, read, tail, write, normalise};
+ghost use Rattle.std.specs.Prelude.{◌≡◌, ◌≤◌, length, take};
+ghost use Rattle.payload_util.specs.Prelude.{row, require, check, read, tail, write, normalise};
 ghost use Rattle.text.specs.Text.{text_code, text_command_byte, text_command_outcome, read_text_command, text_outcome, printable, bytes_of, text_shape, text_with, text_kind};
 
 use payload_util::{

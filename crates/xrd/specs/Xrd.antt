@@ -1,5 +1,6 @@
 -- osdp_XRD (0xB1), R4.13, §7.26: the mode, and its reply.
-use Rattle.payload_util.specs.Prelude.{◌∷◌, drop, byte_at, at_least, nothing, Outcome, gives, refuses, Form, tailed}
+use Rattle.std.specs.Prelude.{◌∷◌, drop}
+use Rattle.payload_util.specs.Prelude.{byte_at, at_least, nothing, Outcome, gives, refuses, Form, tailed}
 use Rattle.payload_util.specs.declared.Guard.TheVariants.{Pass}
 use Rattle.xrd.specs.declared.{Xrd.Xrd, XrdRead.XrdRead, XrdRead.TheVariants.Read, XrdRead.TheVariants.Refused}
 

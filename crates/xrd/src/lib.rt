@@ -1,7 +1,8 @@
 // osdp_XRD (0xB1), extended-read reply: the mode of the request, and data of that mode.
 #![tactic(auto)]
 
-ghost use Rattle.payload_util.specs.Prelude.{◌≡◌, ◌≤◌, length, check, fields, read, tail, write, normalise};
+ghost use Rattle.std.specs.Prelude.{◌≡◌, ◌≤◌, length};
+ghost use Rattle.payload_util.specs.Prelude.{check, fields, read, tail, write, normalise};
 ghost use Rattle.xrd.specs.Xrd.{xrd_outcome, xrd};
 
 use payload_util::{Guard, Refusal, Written, put_bytes, put_payload, require_at_least, tail_where};
