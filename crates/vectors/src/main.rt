@@ -20,13 +20,7 @@ const END: u8 = 255;
 const MORE: usize = 256;
 
 // Runs a case whose input and output are in the space.
-fn whole(
-    rt: &impl Print,
-    t: Tally,
-    c: Case,
-    space: &[u8],
-    out: &mut [u8],
-) -> io::Result<Tally> {
+fn whole(rt: &impl Print, t: Tally, c: Case, space: &[u8], out: &mut [u8]) -> io::Result<Tally> {
     let at = stream::BLOCKS;
     let mid = c.mid;
     let end = c.end;
@@ -65,13 +59,7 @@ fn turn<R: Read>(
     }
 }
 
-fn by_class(
-    rt: &impl Print,
-    t: Tally,
-    c: Case,
-    space: &[u8],
-    out: &mut [u8],
-) -> io::Result<Tally> {
+fn by_class(rt: &impl Print, t: Tally, c: Case, space: &[u8], out: &mut [u8]) -> io::Result<Tally> {
     let class = c.class;
     match class {
         0..=case::LAST => whole(rt, t, c, space, out),
