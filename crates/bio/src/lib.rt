@@ -11,12 +11,12 @@ use payload_util::{
 };
 
 // osdp_BIOREADR: the sample's type, format and quality. The sample is the tail; the layout is that of BIOMATCH.
-#[derive(Drop)]
+#[derive(Clone, Copy)]
 pub struct BioReadR {
     pub head: BioHead,
 }
 
-#[derive(Drop)]
+#[derive(Clone, Copy)]
 pub enum BioReadRRead {
     Read(BioReadR),
     Refused(Refusal),
@@ -64,14 +64,14 @@ impl BioReadR {
 }
 
 // osdp_BIOMATCHR: result 0 is no match, 1 a match; any byte is accepted.
-#[derive(Drop)]
+#[derive(Clone, Copy)]
 pub struct BioMatchR {
     pub reader: u8,
     pub result: u8,
     pub score: u8,
 }
 
-#[derive(Drop)]
+#[derive(Clone, Copy)]
 pub enum BioMatchRRead {
     Read(BioMatchR),
     Refused(Refusal),

@@ -127,7 +127,7 @@ impl BioFormat {
 }
 
 // What BIOREAD, BIOMATCH and BIOREADR begin with.
-#[derive(Drop)]
+#[derive(Clone, Copy)]
 pub struct BioHead {
     pub reader: u8,
     pub bio_type: BioType,
@@ -135,7 +135,7 @@ pub struct BioHead {
     pub quality: u8,
 }
 
-#[derive(Drop)]
+#[derive(Clone, Copy)]
 pub enum BioHeadRead {
     Read(BioHead),
     Refused(Refusal),
@@ -254,12 +254,12 @@ impl BioHead {
 }
 
 // osdp_BIOREAD: the sample to take, and the format to answer in.
-#[derive(Drop)]
+#[derive(Clone, Copy)]
 pub struct BioRead {
     pub head: BioHead,
 }
 
-#[derive(Drop)]
+#[derive(Clone, Copy)]
 pub enum BioReadRead {
     Read(BioRead),
     Refused(Refusal),
@@ -305,12 +305,12 @@ impl BioRead {
 }
 
 // osdp_BIOMATCH: the sample to take, and the quality of a match. The template is the tail.
-#[derive(Drop)]
+#[derive(Clone, Copy)]
 pub struct BioMatch {
     pub head: BioHead,
 }
 
-#[derive(Drop)]
+#[derive(Clone, Copy)]
 pub enum BioMatchRead {
     Read(BioMatch),
     Refused(Refusal),

@@ -11,14 +11,14 @@ use payload_util::{
 };
 
 // The fixed fields; the fragment is the tail, and its length is not a field.
-#[derive(Drop)]
+#[derive(Clone, Copy)]
 pub struct FileTransfer {
     pub file_type: u8,
     pub total_size: u32,
     pub offset: u32,
 }
 
-#[derive(Drop)]
+#[derive(Clone, Copy)]
 pub enum FileTransferRead {
     Read(FileTransfer),
     Refused(Refusal),

@@ -24,7 +24,7 @@ pub struct Frame {
     pub code: u8,
 }
 
-#[derive(Drop)]
+#[derive(Clone, Copy)]
 pub enum FrameRead {
     Read(Frame),
     Refused(Refusal),

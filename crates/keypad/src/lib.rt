@@ -11,13 +11,13 @@ use payload_util::{
 };
 
 // The fixed fields; the digits are the tail.
-#[derive(Drop)]
+#[derive(Clone, Copy)]
 pub struct Keypad {
     pub reader: u8,
     pub digit_count: u8,
 }
 
-#[derive(Drop)]
+#[derive(Clone, Copy)]
 pub enum KeypadRead {
     Read(Keypad),
     Refused(Refusal),

@@ -156,14 +156,14 @@ pub struct LedRecord {
 }
 
 // What asking for a record by its index gives.
-#[derive(Drop)]
+#[derive(Clone, Copy)]
 pub enum LedRead {
     Read(LedRecord),
     Refused(Refusal),
 }
 
 // What is at an offset: a record, or fewer bytes than a record has.
-#[derive(Drop)]
+#[derive(Clone, Copy)]
 pub enum LedStep {
     Record(LedRecord),
     Finished,

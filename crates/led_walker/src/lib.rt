@@ -5,16 +5,16 @@ ghost use Rattle.std.specs.Prelude.{◌≡◌};
 ghost use Rattle.led_walker.specs.Walk.{start_led, started_led, offset_after, moved_led, stepped};
 
 use led::{LedRecord, LedStep};
-use payload_util::{Guard, tail_from};
+use payload_util::{Guard, tail_from, tail_where};
 
-#[derive(Drop)]
+#[derive(Clone, Copy)]
 pub struct LedWalker<'a> {
     pub payload: &'a [u8],
     pub offset: usize,
 }
 
 // What starting gives: a pass with the payload and the offset of its first record, or a refusal with no bytes and offset 0.
-#[derive(Drop)]
+#[derive(Clone, Copy)]
 pub struct LedStart<'a> {
     pub payload: &'a [u8],
     pub offset: usize,
@@ -22,7 +22,7 @@ pub struct LedStart<'a> {
 }
 
 // What starting gives, in plain values: how many bytes the walker holds, its offset, and the check.
-#[derive(Drop)]
+#[derive(Clone, Copy)]
 pub struct LedStarted {
     pub len: usize,
     pub offset: usize,
@@ -30,7 +30,7 @@ pub struct LedStarted {
 }
 
 // A step, and the offset after it.
-#[derive(Drop)]
+#[derive(Clone, Copy)]
 pub struct LedMoved {
     pub step: LedStep,
     pub offset: usize,
@@ -42,15 +42,8 @@ impl<'a> LedWalker<'a> {
         ensures { (result.payload.now, result.offset, result.checked) ≡ start_led payload.now }
     {
         let checked = LedRecord::check(payload);
-        let Guard::Pass = checked else {
-            return LedStart {
-                payload: &payload[..0],
-                offset: 0,
-                checked,
-            };
-        };
         LedStart {
-            payload,
+            payload: tail_where(checked, payload, 0),
             offset: 0,
             checked,
         }

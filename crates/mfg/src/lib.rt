@@ -8,14 +8,14 @@ ghost use Rattle.mfg.specs.Mfg.{mfg_outcome, mfg};
 use payload_util::{Guard, Refusal, Written, put_bytes, put_payload, require_at_least, tail_where};
 
 // The fixed fields: the vendor's OUI. The vendor's data is the tail.
-#[derive(Drop)]
+#[derive(Clone, Copy)]
 pub struct Mfg {
     pub oui_0: u8,
     pub oui_1: u8,
     pub oui_2: u8,
 }
 
-#[derive(Drop)]
+#[derive(Clone, Copy)]
 pub enum MfgRead {
     Read(Mfg),
     Refused(Refusal),

@@ -22,7 +22,7 @@ pub enum NakErrorCode {
     UnableToProcessCommandRecord,
 }
 
-#[derive(Drop)]
+#[derive(Clone, Copy)]
 pub enum NakErrorCodeRead {
     Read(NakErrorCode),
     Refused(Refusal),
@@ -72,12 +72,12 @@ impl NakErrorCode {
 }
 
 // The fixed field: the error. Completion codes, one for each record of the command, are the tail.
-#[derive(Drop)]
+#[derive(Clone, Copy)]
 pub struct Nak {
     pub error: NakErrorCode,
 }
 
-#[derive(Drop)]
+#[derive(Clone, Copy)]
 pub enum NakRead {
     Read(Nak),
     Refused(Refusal),

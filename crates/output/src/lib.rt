@@ -24,7 +24,7 @@ pub enum OutputControlCode {
     TemporaryOffResume,
 }
 
-#[derive(Drop)]
+#[derive(Clone, Copy)]
 pub enum OutputControlCodeRead {
     Read(OutputControlCode),
     Refused(Refusal),
@@ -88,7 +88,7 @@ pub struct OutputRecord {
     pub timer: u16,
 }
 
-#[derive(Drop)]
+#[derive(Clone, Copy)]
 pub enum OutputRead {
     Read(OutputRecord),
     Refused(Refusal),

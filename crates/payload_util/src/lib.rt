@@ -14,7 +14,7 @@ ghost use Rattle.payload_util.specs.Writing.{put_checked, put};
 pub const FOLDED: u8 = 17;
 
 // A row of the refusal table: its number, the payload's code byte, and the two values that the row names, 0 if it names none.
-#[derive(Drop)]
+#[derive(Clone, Copy)]
 pub struct Refusal {
     pub number: u8,
     pub code: u8,
@@ -23,14 +23,14 @@ pub struct Refusal {
 }
 
 // What a guard or a check answers.
-#[derive(Drop)]
+#[derive(Clone, Copy)]
 pub enum Guard {
     Pass,
     Refused(Refusal),
 }
 
 // What a writer or a normaliser answers: how many bytes it wrote, or a refusal.
-#[derive(Drop)]
+#[derive(Clone, Copy)]
 pub enum Written {
     Wrote(usize),
     Refused(Refusal),

@@ -7,12 +7,12 @@ use payload_util::{
     Guard, Refusal, Written, high_byte, low_byte, put_bytes, put_payload, require_exact_len, u16_at,
 };
 
-#[derive(Drop)]
+#[derive(Clone, Copy)]
 pub struct AcuRxSize {
     pub max_size: u16,
 }
 
-#[derive(Drop)]
+#[derive(Clone, Copy)]
 pub enum AcuRxSizeRead {
     Read(AcuRxSize),
     Refused(Refusal),

@@ -7,13 +7,13 @@ use payload_util::{
     Guard, Refusal, Written, byte_at, put_bytes, put_payload, require_exact_len, u32_at, u32_bytes,
 };
 
-#[derive(Drop)]
+#[derive(Clone, Copy)]
 pub struct Com {
     pub address: u8,
     pub baud: u32,
 }
 
-#[derive(Drop)]
+#[derive(Clone, Copy)]
 pub enum ComRead {
     Read(Com),
     Refused(Refusal),

@@ -7,13 +7,13 @@ use crate::com::put_address_and_baud;
 use payload_util::{Guard, Refusal, Written, byte_at, put_payload, require_exact_len, u32_at};
 
 // Any address is taken, also above 0x7E, which is the highest that a reader can have.
-#[derive(Drop)]
+#[derive(Clone, Copy)]
 pub struct ComSet {
     pub address: u8,
     pub baud: u32,
 }
 
-#[derive(Drop)]
+#[derive(Clone, Copy)]
 pub enum ComSetRead {
     Read(ComSet),
     Refused(Refusal),

@@ -6,12 +6,12 @@ ghost use Rattle.plain.specs.Number.{keep_active_outcome, keep_active};
 use crate::acu_rx_size::put_number;
 use payload_util::{Guard, Refusal, Written, put_payload, require_exact_len, u16_at};
 
-#[derive(Drop)]
+#[derive(Clone, Copy)]
 pub struct KeepActive {
     pub duration_ms: u16,
 }
 
-#[derive(Drop)]
+#[derive(Clone, Copy)]
 pub enum KeepActiveRead {
     Read(KeepActive),
     Refused(Refusal),

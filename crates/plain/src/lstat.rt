@@ -6,13 +6,13 @@ ghost use Rattle.plain.specs.LStat.{l_stat_r_outcome, l_stat_r};
 use payload_util::{Guard, Refusal, Written, byte_at, put_bytes, put_payload, require_exact_len};
 
 // 0 is normal, 1 is tamper or a power failure; any byte is accepted.
-#[derive(Drop)]
+#[derive(Clone, Copy)]
 pub struct LStatR {
     pub tamper: u8,
     pub power: u8,
 }
 
-#[derive(Drop)]
+#[derive(Clone, Copy)]
 pub enum LStatRRead {
     Read(LStatR),
     Refused(Refusal),

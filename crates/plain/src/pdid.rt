@@ -7,7 +7,7 @@ use payload_util::{
     Guard, Refusal, Written, byte_at, put_bytes, put_payload, require_exact_len, u32_at, u32_bytes,
 };
 
-#[derive(Drop)]
+#[derive(Clone, Copy)]
 pub struct PdId {
     pub oui_0: u8,
     pub oui_1: u8,
@@ -20,7 +20,7 @@ pub struct PdId {
     pub firmware_build: u8,
 }
 
-#[derive(Drop)]
+#[derive(Clone, Copy)]
 pub enum PdIdRead {
     Read(PdId),
     Refused(Refusal),

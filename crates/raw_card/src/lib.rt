@@ -12,14 +12,14 @@ use payload_util::{
 };
 
 // The fixed fields; the bits are the tail.
-#[derive(Drop)]
+#[derive(Clone, Copy)]
 pub struct Raw {
     pub reader: u8,
     pub format_code: u8,
     pub bit_count: u16,
 }
 
-#[derive(Drop)]
+#[derive(Clone, Copy)]
 pub enum RawRead {
     Read(Raw),
     Refused(Refusal),
@@ -147,14 +147,14 @@ fn fill_bits(n: usize, bits: &[u8], out: &mut [u8])
 }
 
 // The fixed fields; the characters are the tail.
-#[derive(Drop)]
+#[derive(Clone, Copy)]
 pub struct Fmt {
     pub reader: u8,
     pub direction: u8,
     pub char_count: u8,
 }
 
-#[derive(Drop)]
+#[derive(Clone, Copy)]
 pub enum FmtRead {
     Read(Fmt),
     Refused(Refusal),

@@ -19,7 +19,7 @@ pub enum TextCommand {
     TemporaryWrap,
 }
 
-#[derive(Drop)]
+#[derive(Clone, Copy)]
 pub enum TextCommandRead {
     Read(TextCommand),
     Refused(Refusal),
@@ -58,7 +58,7 @@ impl TextCommand {
 }
 
 // The fixed fields; the text is the tail.
-#[derive(Drop)]
+#[derive(Clone, Copy)]
 pub struct Text {
     pub reader: u8,
     pub command: TextCommand,
@@ -68,7 +68,7 @@ pub struct Text {
     pub column: u8,
 }
 
-#[derive(Drop)]
+#[derive(Clone, Copy)]
 pub enum TextRead {
     Read(Text),
     Refused(Refusal),
@@ -119,7 +119,6 @@ impl Text {
 
     // Whether all eight bytes of a word do. No byte of low is above 0x7F, so neither the sum nor the difference carries from a byte into the
     // next one. A byte's top bit is set in over if low has 0x7F there, and in under if low has less than 0x20.
-    #[tactic(auto, using(crate::proofs::Marks::word_test))]
     fn printable_word(w: u64) -> bool
         ensures { require result (row 8 text_code 0 0) ≡ printable (bytes_of 8 w) }
     {

@@ -9,7 +9,7 @@ pub const BLOCKS: usize = 262144;
 
 // What is between two indices of the space: a case or the record that ends a stream; only the beginning of one, or nothing; or one that
 // does not fit into the space.
-#[derive(Drop)]
+#[derive(Clone, Copy)]
 pub enum Taken {
     Case(Case),
     Short,
@@ -20,7 +20,7 @@ pub enum Taken {
 const PAST: usize = 18446744073709551615;
 
 // A number of the stream, and the index after it.
-#[derive(Drop)]
+#[derive(Clone, Copy)]
 struct Number {
     value: usize,
     next: usize,
@@ -60,7 +60,7 @@ fn sum(a: usize, b: usize) -> usize {
 
 // A case, and where its bytes lie: the index of its stored input, how many bytes of its input and of its output are stored, how many
 // are filled up, and with which byte.
-#[derive(Drop)]
+#[derive(Clone, Copy)]
 struct Head {
     case: Case,
     at: usize,

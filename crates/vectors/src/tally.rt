@@ -5,7 +5,7 @@ use vectors_case::Case;
 // How many of the cases that differ are named.
 const NAMED: u64 = 10;
 
-#[derive(Drop)]
+#[derive(Clone, Copy)]
 pub struct Tally {
     pub cases: u64,
     pub differ: u64,

@@ -10,7 +10,7 @@ use text::{TextCommand, TextCommandRead};
 use vectors_case::Case;
 
 // The byte of the code that was found: as the library gives it, and by the code's name.
-#[derive(Drop)]
+#[derive(Clone, Copy)]
 enum Found {
     Code(u8, u8),
     Refused(Refusal),

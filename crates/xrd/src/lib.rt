@@ -8,12 +8,12 @@ ghost use Rattle.xrd.specs.Xrd.{xrd_outcome, xrd};
 use payload_util::{Guard, Refusal, Written, put_bytes, put_payload, require_at_least, tail_where};
 
 // The fixed field: XRW_MODE. The mode's reply is the tail.
-#[derive(Drop)]
+#[derive(Clone, Copy)]
 pub struct Xrd {
     pub mode: u8,
 }
 
-#[derive(Drop)]
+#[derive(Clone, Copy)]
 pub enum XrdRead {
     Read(Xrd),
     Refused(Refusal),
