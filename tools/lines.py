@@ -3,8 +3,8 @@
 
 usage: lines.py [--seconds]
 
-With --seconds the crates are copied to a temporary folder and proved there from nothing, one after the other, in the order of crates.txt. It stops at
-the first that is not proved.
+With --seconds the crates are copied to a temporary folder and proved there, one after the other, in the order of crates.txt. It stops at the first that
+is not proved. rt begins with what earlier checks on the machine kept of a crate: only where there is nothing kept are these the seconds from nothing.
 """
 import re
 import shutil
