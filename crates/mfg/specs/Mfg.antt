@@ -1,12 +1,8 @@
 -- osdp_MFG (0x80), R4.7, §6.22: the vendor's OUI of three bytes, and data.
 use Rattle.std.specs.Prelude.{◌∷◌, drop}
-use Rattle.payload_util.specs.Prelude.{byte_at, at_least, nothing, Outcome, gives, refuses, Form, tailed}
-use Rattle.payload_util.specs.declared.Guard.TheVariants.{Pass}
-use Rattle.mfg.specs.declared.{Mfg.Mfg, MfgRead.MfgRead, MfgRead.TheVariants.Read, MfgRead.TheVariants.Refused}
-
-abbrev pub mfg_outcome : MfgRead → Outcome Mfg
-mfg_outcome (Read m) = gives m
-mfg_outcome (Refused e) = refuses e
+use Rattle.payload_util.specs.Prelude.{byte_at, at_least, nothing, Outcome, Form, tailed}
+use Rattle.mfg.specs.declared.Mfg.{Mfg}
+use Rattle.payload_util.specs.Refusals.{Pass}
 
 abbrev pub mfg : Form
 mfg = tailed {A = Mfg} (record {

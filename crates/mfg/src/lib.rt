@@ -1,11 +1,13 @@
 // osdp_MFG (0x80), manufacturer-specific command: the vendor's OUI, and data that only the vendor reads.
 #![tactic(auto)]
 
-ghost use Rattle.std.specs.Prelude.{◌≡◌, ◌≤◌, length};
-ghost use Rattle.payload_util.specs.Prelude.{check, fields, read, tail, write, normalise};
-ghost use Rattle.mfg.specs.Mfg.{mfg_outcome, mfg};
+ghost use Rattle.std.specs.Prelude.{◌≡◌};
+ghost use Rattle.payload_util.specs.Prelude.{fields, tail, write};
+ghost use Rattle.mfg.specs.Mfg.{mfg};
 
-use payload_util::{Guard, Refusal, Written, put_bytes, put_payload, require_at_least, tail_where};
+use payload_util::{
+    Payload, Record, Refusal, put_bytes, put_payload, require_at_least, tail_where,
+};
 
 // The fixed fields: the vendor's OUI. The vendor's data is the tail.
 #[derive(Clone, Copy)]
@@ -15,44 +17,38 @@ pub struct Mfg {
     pub oui_2: u8,
 }
 
-#[derive(Clone, Copy)]
-pub enum MfgRead {
-    Read(Mfg),
-    Refused(Refusal),
-}
+impl Payload for Mfg {
+    const CODE: u8 = 0x80;
 
-impl Mfg {
-    pub const CODE: u8 = 0x80;
+    ghost form = { mfg };
 
-    pub const WIRE_LEN: usize = 3;
-
-    pub fn check(p: &[u8]) -> Guard
-        ensures { result ≡ check mfg p.now }
-    {
+    fn check(p: &[u8]) -> Result<(), Refusal> {
         require_at_least(p, Self::WIRE_LEN, Self::CODE)
     }
 
-    #[tactic(auto, using(payload_util::proofs::Guards::least_pass))]
-    pub fn decode(p: &[u8]) -> MfgRead
-        ensures { mfg_outcome result ≡ read mfg p.now }
-    {
-        let checked = Self::check(p);
-        let Guard::Pass = checked else {
-            return MfgRead::Refused(checked.refusal());
-        };
-        MfgRead::Read(Self::fields(p))
+    fn put_kept(p: &[u8], out: &mut [u8]) -> Result<usize, Refusal> {
+        put_payload(p, Self::CODE, out)
     }
 
-    fn fields(p: &[u8]) -> Mfg
-        requires { 3 ≤ length p.now }
-        ensures { result ≡ fields mfg p.now }
-    {
+    #[tactic(auto, using(crate::proofs::Laws::mfg_law))]
+    fn keeps_law() {}
+}
+
+impl Record for Mfg {
+    ghost fields = { fields mfg };
+
+    #[tactic(auto, using(payload_util::proofs::Guards::least_pass))]
+    fn fields(p: &[u8]) -> Mfg {
         Mfg {
             oui_0: p[0],
             oui_1: p[1],
             oui_2: p[2],
         }
     }
+}
+
+impl Mfg {
+    pub const WIRE_LEN: usize = 3;
 
     // The vendor's data; empty if reading refuses.
     pub fn payload(p: &[u8]) -> &[u8]
@@ -61,7 +57,7 @@ impl Mfg {
         tail_where(Self::check(p), p, Self::WIRE_LEN)
     }
 
-    pub fn encode(self, payload: &[u8], out: &mut [u8]) -> Written
+    pub fn encode(self, payload: &[u8], out: &mut [u8]) -> Result<usize, Refusal>
         ensures { (result, out.new) ≡ write mfg self payload.now out.old }
     {
         put_bytes(
@@ -70,12 +66,5 @@ impl Mfg {
             Self::CODE,
             out,
         )
-    }
-
-    // Reading loses nothing: an accepted payload is written as it came.
-    pub fn normalise(p: &[u8], out: &mut [u8]) -> Written
-        ensures { (result, out.new) ≡ normalise mfg p.now out.old }
-    {
-        put_payload(Self::check(p), p, Self::CODE, out)
     }
 }

@@ -11,12 +11,10 @@ use Rattle.payload_util.specs.Guards.{room}
 use Rattle.payload_util.specs.Loss.{Keep, up_to, kept, keep, only_at, times}
 use Rattle.payload_util.specs.Writing.{Effect, effect, room_last, put_checked}
 use Rattle.payload_util.specs.declared.Refusal.{Refusal}
-use Rattle.payload_util.specs.declared.Guard.{Guard}
-use Rattle.payload_util.specs.declared.Guard.TheVariants.{Pass, Refused}
-use Rattle.payload_util.specs.declared.Written.{Written}
-use Rattle.payload_util.specs.declared.Written.TheVariants.{Wrote, Refused as NotWritten}
 use Rattle.payload_util.proofs.Guards.{also_pass}
 use Rattle.payload_util.proofs.Losses.{length_keep}
+use Rattle.std.specs.Prelude.{Ok, Err}
+use Rattle.payload_util.specs.Refusals.{Outcome, Guard, Pass}
 
 -- one byte
 pub only_at_lem : (offset highest : ℕ) (p : List ℕ) → set p offset (kept (up_to highest) (get_or p offset 0)) ≡ keep (only_at offset highest) p
@@ -70,40 +68,40 @@ length_times (suc n) ls = length-append ls (times n ls) ∙ omega (arith, length
 
 -- ---- a payload was put, and is folded where it is
 
-module _ (g : Guard) (code : ℕ) (ls : List Keep) (p out : List ℕ) {w : Written} {e : List ℕ}
+module _ (g : Guard) (code : ℕ) (ls : List Keep) (p out : List ℕ) {w : Outcome ℕ} {e : List ℕ}
     (is : ◌≡◌ {A = Effect} (w, e) (put_checked g code p out)) where
   abbrev all : Guard
   all = room_last g (room code (length p) (length out))
 
   -- it is at the front
-  pub put_front : {n : ℕ} → w ≡ Wrote n → take (length p) e ≡ p
+  pub put_front : {n : ℕ} → w ≡ Ok n → take (length p) e ≡ p
   put_front {n} h = go all is
     where
       go : (a : Guard) → ◌≡◌ {A = Effect} (w, e) (effect a p out) → take (length p) e ≡ p
-      go Pass q = ap (λ (x : Effect). take (length p) x.1) q ∙ take-append_seam p (drop (length p) out)
-      go (Refused x) q =
-          let z : NotWritten x ≡ Wrote n = sym (ap (λ (x : Effect). x.0) q) ∙ h in
+      go (Ok _) q = ap (λ (x : Effect). take (length p) x.1) q ∙ take-append_seam p (drop (length p) out)
+      go (Err x) q =
+          let z : Err x ≡ Ok n = sym (ap (λ (x : Effect). x.0) q) ∙ h in
           let y : ◌≡◌ {A = ℕ} 0 1 = cc in absurd (omega arith)
 
   same_room : put_checked g code (keep ls p) out ≡ effect all (keep ls p) out
   same_room = ap (λ (n : ℕ). effect (room_last g (room code n (length out))) (keep ls p) out) (length_keep ls p)
 
-  pub folds : {n : ℕ} → w ≡ Wrote n → (g ≡ Pass → length ls ≤ length p) → ◌≡◌ {A = Effect} (w, keep ls e) (put_checked g code (keep ls p) out)
+  pub folds : {n : ℕ} → w ≡ Ok n → (g ≡ Pass → length ls ≤ length p) → ◌≡◌ {A = Effect} (w, keep ls e) (put_checked g code (keep ls p) out)
   folds {n} h fits = go all refl is ∙ sym same_room
     where
       go : (a : Guard) → all ≡ a → ◌≡◌ {A = Effect} (w, e) (effect a p out) → ◌≡◌ {A = Effect} (w, keep ls e) (effect a (keep ls p) out)
-      go Pass pass q =
+      go (Ok _) pass q =
           ap (λ (x : Effect). (x.0, keep ls x.1)) q
           ∙ simp (keep_over ls p (drop (length p) out) (fits (also_pass g (room code (length p) (length out)) pass).0), length_keep)
-      go (Refused x) stop q =
-          let z : NotWritten x ≡ Wrote n = sym (ap (λ (x : Effect). x.0) q) ∙ h in
+      go (Err x) stop q =
+          let z : Err x ≡ Ok n = sym (ap (λ (x : Effect). x.0) q) ∙ h in
           let y : ◌≡◌ {A = ℕ} 0 1 = cc in absurd (omega arith)
 
-  pub refuses_all : {r : Refusal} → w ≡ NotWritten r → ◌≡◌ {A = Effect} (w, e) (put_checked g code (keep ls p) out)
+  pub refuses_all : {r : Refusal} → w ≡ Err r → ◌≡◌ {A = Effect} (w, e) (put_checked g code (keep ls p) out)
   refuses_all {r} h = go all is ∙ sym same_room
     where
       go : (a : Guard) → ◌≡◌ {A = Effect} (w, e) (effect a p out) → ◌≡◌ {A = Effect} (w, e) (effect a (keep ls p) out)
-      go Pass q =
-          let z : Wrote (length p) ≡ NotWritten r = sym (ap (λ (x : Effect). x.0) q) ∙ h in
+      go (Ok _) q =
+          let z : Ok (length p) ≡ Err r = sym (ap (λ (x : Effect). x.0) q) ∙ h in
           let y : ◌≡◌ {A = ℕ} 0 1 = cc in absurd (omega arith)
-      go (Refused x) q = q
+      go (Err x) q = q

@@ -10,10 +10,10 @@ use Rattle.payload_util.specs.Bytes.{Bytes, each, flat}
 use Rattle.payload_util.specs.Guards.{head_and_tail, tail_len, not_empty}
 use Rattle.payload_util.specs.Loss.{without}
 use Rattle.payload_util.specs.Form.{Fixed, Tailed, Listed, fixed, tailed, listed, check}
-use Rattle.payload_util.specs.declared.Guard.TheVariants.{Pass}
 use Rattle.payload_util.proofs.Guards.{head_and_tail_pass, pass_head_and_tail, tail_len_pass, pass_tail_len}
 use Rattle.payload_util.proofs.Each.{length_each, length_flat, each_back}
-use Rattle.payload_util.proofs.Scheme.{Law}
+use Rattle.payload_util.specs.Law.{Law}
+use Rattle.payload_util.specs.Refusals.{Pass}
 
 module _ {A : Type 0} {k : Fixed A} where
   pub fixed_law : ((p : List ℕ) → Bytes p → check (fixed k) p ≡ Pass → k.bytes (k.fields p) ≡ without k.loss p)

@@ -9,12 +9,11 @@ use native.Mathlib.Omega.{arith}
 use borrow.Author.Tests.{leb-true, leb-false, eqb-true, ltb-true, le-leb, lt-leb, lt-ltb, eq-eqb}
 use lib.ListN.{length, drop, length-drop}
 use lib.Dec.{leb, ltb, eqb}
-use Rattle.payload_util.specs.Refusals.{require, ◌also◌, refusal_of}
-use Rattle.payload_util.specs.Outcome.{Outcome, gives, refuses, outcome, guard_of}
+use Rattle.payload_util.specs.Refusals.{require, ◌also◌, Outcome, Guard, Pass}
+use Rattle.payload_util.specs.Outcome.{outcome, guard_of}
 use Rattle.payload_util.specs.Guards.{exact_len, at_least, blocks_from, positive_multiple_of, declared_len, head_and_tail, at_most, tail_len, room, present}
 use Rattle.payload_util.specs.declared.Refusal.{Refusal}
-use Rattle.payload_util.specs.declared.Guard.{Guard}
-use Rattle.payload_util.specs.declared.Guard.TheVariants.{Pass, Refused}
+use Rattle.std.specs.Prelude.{Ok, Err}
 
 -- ---- a guard that passes
 
@@ -27,8 +26,8 @@ both true b h = (refl, h)
 both false b h = let z : false ≡ true = h in (z, cc)
 
 pub also_pass : (g h : Guard) → (g also h) ≡ Pass → (g ≡ Pass) × (h ≡ Pass)
-also_pass Pass h e = (refl, e)
-also_pass (Refused r) h e = let z : ◌≡◌ {A = ℕ} 0 1 = cc in absurd (omega arith)
+also_pass (Ok _) h e = (refl, e)
+also_pass (Err r) h e = let z : ◌≡◌ {A = ℕ} 0 1 = cc in absurd (omega arith)
 
 -- the two halves of `also_pass`: with them, `search (also_left, also_right)` finds any guard of a row
 pub also_left : (g h : Guard) → (g also h) ≡ Pass → g ≡ Pass
@@ -38,9 +37,9 @@ pub also_right : (g h : Guard) → (g also h) ≡ Pass → h ≡ Pass
 also_right g h e = (also_pass g h e).1
 
 -- a record is given only if the checks pass
-pub gives_pass : {A : Type 0} (g : Guard) (a r : A) → outcome g a ≡ gives r → (g ≡ Pass) × (a ≡ r)
-gives_pass Pass a r e = (refl, cc)
-gives_pass (Refused f) a r e = let z : ◌≡◌ {A = ℕ} 0 1 = cc in absurd (omega arith)
+pub gives_pass : {A : Type 0} (g : Guard) (a r : A) → outcome g a ≡ Ok r → (g ≡ Pass) × (a ≡ r)
+gives_pass (Ok _) a r e = (refl, cc)
+gives_pass (Err f) a r e = let z : ◌≡◌ {A = ℕ} 0 1 = cc in absurd (omega arith)
 
 module _ (n code : ℕ) (p : List ℕ) where
   pub exact_pass : exact_len n code p ≡ Pass → length p ≡ n
@@ -148,25 +147,25 @@ pub passed : {f g : Guard} → f ≡ g → f ≡ Pass → g ≡ Pass
 passed e p = cc
 
 -- the answer is handed on if it is a refusal
-pub stopped : {f g : Guard} {e : Refusal} (h : Guard) → f ≡ g → f ≡ Refused e → f ≡ (g also h)
+pub stopped : {f g : Guard} {e : Refusal} (h : Guard) → f ≡ g → f ≡ Err e → f ≡ (g also h)
 stopped h q p = p ∙ simp (sym q ∙ p)
 
 -- the first guard passes, and x answers the rest
 pub skipped : {x g h : Guard} → g ≡ Pass → x ≡ h → x ≡ (g also h)
 skipped p q = q ∙ simp p
 
--- r is the refusal that was taken out of f
-pub refused : {f g : Guard} {e r : Refusal} → f ≡ g → f ≡ Refused e → r ≡ refusal_of f → g ≡ Refused r
-refused q p h = sym q ∙ p ∙ ap Refused (ap refusal_of (sym p) ∙ sym h)
+-- f's refusal is g's
+pub refused : {f g : Guard} {e : Refusal} → f ≡ g → f ≡ Err e → g ≡ Err e
+refused q p = sym q ∙ p
 
 -- a check that asks a code table passes its answer on
-pub guard_gives : {A : Type 0} {o : Outcome A} {a : A} → o ≡ gives a → guard_of o ≡ Pass
+pub guard_gives : {A : Type 0} {o : Outcome A} {a : A} → o ≡ Ok a → guard_of o ≡ Pass
 guard_gives e = simp e
 
-pub guard_refuses : {A : Type 0} {o : Outcome A} {e : Refusal} → o ≡ refuses e → guard_of o ≡ Refused e
+pub guard_refuses : {A : Type 0} {o : Outcome A} {e : Refusal} → o ≡ Err e → guard_of o ≡ Err e
 guard_refuses e = simp e
 
 -- a reader's refusal is that of its checks
 pub guard_outcome : {A : Type 0} (g : Guard) (a : A) → guard_of (outcome g a) ≡ g
-guard_outcome Pass a = refl
-guard_outcome (Refused e) a = refl
+guard_outcome (Ok _) a = refl
+guard_outcome (Err e) a = refl

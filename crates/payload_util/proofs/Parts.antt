@@ -6,13 +6,13 @@ use Prim.Native.Nat.{ℕ, zero, suc, ◌+◌, ◌-◌, ◌≤◌}
 use native.Mathlib.Nat.{add-zero, zero-add}
 use native.Mathlib.Omega.{arith}
 use lib.ListN.{length, get_or, take, drop, length-append, length-drop, drop_of_length-le}
-use lib.Seq.{paste, take-paste, drop-paste, length-take-le, take_all, take-length, take-add, take-take, take-append-add, take-append_seam}
-use lib.Seq.{drop-append-add, drop-cons, drop-drop}
+use lib.Seq.{paste, take-paste, drop-paste, length-take-le, take_all, take-length, take-add, take-take, take-append-add, take-append_seam, drop-append-add, drop-cons, drop-drop}
 use Rattle.payload_util.specs.Guards.{room}
 use Rattle.payload_util.specs.Writing.{put}
-use Rattle.payload_util.specs.declared.Guard.TheVariants.{Pass}
-use Rattle.payload_util.specs.declared.Written.TheVariants.{Wrote}
 use Rattle.payload_util.proofs.Filled.{back_over}
+use Rattle.std.specs.Prelude.{Ok, Err}
+use Rattle.payload_util.specs.Refusals.{Pass}
+use Rattle.payload_util.specs.declared.Refusal.{Refusal}
 
 -- a part `&p[at..]`
 pub part_to_end : (p : List ℕ) (at : ℕ) → take (length p - at) (drop at p) ≡ drop at p
@@ -51,20 +51,20 @@ module _ (d s : List ℕ) (at i : ℕ) (fits : at + length s ≤ length d) (with
 
 -- d is the buffer with all that is to be written
 pub one_part : (code : ℕ) (p out d : List ℕ) → room code (length p) (length out) ≡ Pass → d ≡ paste out 0 p (length p)
-    → (Wrote (length p), d) ≡ put code p out
+    → (Ok (length p), d) ≡ put code p out
 one_part code p out d fits q = simp (fits, q, take-length, zero-add)
 
 -- d is the buffer with the head, and e is d with the tail after it
 pub two_parts : (code : ℕ) (h t out d e : List ℕ) → room code (length h + length t) (length out) ≡ Pass
     → d ≡ paste out 0 h (length h) → e ≡ paste d (length h) t (length t)
-    → (Wrote (length h + length t), e) ≡ put code (h ++ t) out
+    → (Ok (length h + length t), e) ≡ put code (h ++ t) out
 two_parts code h t out d e fits p q =
     simp (length-append, fits, q, p, take-length, zero-add, take-append_seam, drop-append-add, drop-drop)
 
 -- d is the buffer with the head, e is d with the body after it, and g is e with the tail after both
 pub three_parts : (code n : ℕ) (h b t out d e g : List ℕ) → n ≡ length h + length b + length t → room code n (length out) ≡ Pass
     → d ≡ paste out 0 h (length h) → e ≡ paste d (length h) b (length b) → g ≡ paste e (length h + length b) t (length t)
-    → (Wrote n, g) ≡ put code ((h ++ b) ++ t) out
+    → (Ok n, g) ≡ put code ((h ++ b) ++ t) out
 three_parts code n h b t out d e g is fits p q r =
     let l : length h + length b ≡ length (h ++ b) = sym (length-append h b) in
     let both : e ≡ paste out 0 (h ++ b) (length (h ++ b)) = rw (take-length, ← l) (simp (q, p, take-length, zero-add, take-append_seam, drop-append-add, drop-drop)) in
@@ -91,3 +91,7 @@ by_head n p f h e =
 -- nothing follows n bytes
 pub ended : (n : ℕ) (p : List ℕ) → length p ≡ n → drop n p ≡ []
 ended n p e = drop_of_length-le p {i = n} (omega arith)
+
+-- a list that does not fit is not written
+pub put_refused : {n : ℕ} {e : Refusal} (code : ℕ) (bs out : List ℕ) → n ≡ length bs → room code n (length out) ≡ Err e → put code bs out ≡ (Err e, out)
+put_refused code bs out l r = let s : room code (length bs) (length out) ≡ Err _ = ap (λ (m : ℕ). room code m (length out)) (sym l) ∙ r in simp s

@@ -8,39 +8,16 @@ use native.Mathlib.Omega.{arith}
 use lib.ListN.{length, get_or, take, drop, length-append, length-drop}
 use lib.Seq.{take_at, drop_at, ext_get_or}
 use Rattle.payload_util.specs.Bytes.{Bytes}
-use Rattle.payload_util.specs.Refusals.{◌also◌}
-use Rattle.payload_util.specs.Outcome.{Outcome, gives, refuses, outcome, tail_where}
+use Rattle.payload_util.specs.Refusals.{◌also◌, Outcome, Guard, Pass}
+use Rattle.payload_util.specs.Outcome.{outcome, tail_where}
 use Rattle.payload_util.specs.Guards.{room, present}
 use Rattle.payload_util.specs.Writing.{Effect, effect, room_last, put_checked, Leaves, rewrite}
 use Rattle.payload_util.specs.Loss.{without}
-use Rattle.payload_util.specs.Form.{Listed, Form, fixed, tailed, listed, code, loss, check, Record, whole, refuse, bytes}
-use Rattle.payload_util.specs.Form.{read, written, normalise, Accepted, ReadsAs, WritesAs, LosesOnly}
-use Rattle.payload_util.specs.declared.Guard.{Guard}
-use Rattle.payload_util.specs.declared.Guard.TheVariants.{Pass, Refused}
-use Rattle.payload_util.specs.declared.Written.TheVariants.{Wrote}
+use Rattle.payload_util.specs.Form.{Listed, Form, fixed, tailed, listed, code, loss, check, Record, whole, refuse, bytes, read, written, normalise, Accepted, ReadsAs, WritesAs, LosesOnly}
+use Rattle.payload_util.specs.Law.{Some, Law}
 use Rattle.payload_util.proofs.Guards.{also_pass, gives_pass, pass_present, room_pass}
 use Rattle.payload_util.proofs.Each.{length_each, each_at}
-
--- a list has a record
-abbrev pub Some : Form → List ℕ → Type 0
-Some (fixed k) p = Unit
-Some (tailed k) p = Unit
-Some (listed k) p = zero < length p / k.width
-
--- What has to be proved of a kind's row.
-pub record Law (f : Form) : Type 0 where
-  pub some : (p : List ℕ) → check f p ≡ Pass → Some f p
-  -- writing what was read gives the payload without what is lost, and is not refused
-  pub kept : (p : List ℕ) → Bytes p → check f p ≡ Pass → bytes f (whole f p) ≡ without (loss f) p
-  pub writable : (p : List ℕ) → Bytes p → check f p ≡ Pass → refuse f (whole f p) ≡ Pass
-  -- the bytes of a record that is not refused give the record back
-  pub back : List ℕ → Record f
-  pub restored : (r : Record f) → refuse f r ≡ Pass → back (bytes f r) ≡ r
-  -- what is lost does not decide whether a payload is accepted
-  pub steady : (p : List ℕ) → check f (without (loss f) p) ≡ check f p
-  -- what is written is accepted, and holds the record, unless reading cuts a part of it off
-  pub readable : (r : Record f) → refuse f r ≡ Pass → check f (bytes f r) ≡ Pass
-  pub reread : (r : Record f) → refuse f r ≡ Pass → length (without (loss f) (bytes f r)) ≡ length (bytes f r) → whole f (bytes f r) ≡ r
+use Rattle.std.specs.Prelude.{Ok, Err}
 
 -- ---- what a reader gives is what is in a payload that passes
 
@@ -49,10 +26,10 @@ module _ {A : Type 0} (k : Listed A) (p : List ℕ) where
   guard i = check (listed k) p also present k.code i (length p / k.width)
 
   reads_at : check (listed k) p ≡ Pass → (i : ℕ) → i < length p / k.width
-      → read (listed k) p i ≡ gives (k.fields (drop (k.width * i) p))
+      → read (listed k) p i ≡ Ok (k.fields (drop (k.width * i) p))
   reads_at h i lt = simp (h, pass_present k.code i (length p / k.width) lt)
 
-  list_pass : (r : A) → read (listed k) p 0 ≡ gives r → check (listed k) p ≡ Pass
+  list_pass : (r : A) → read (listed k) p 0 ≡ Ok r → check (listed k) p ≡ Pass
   list_pass r e = (also_pass (check (listed k) p) (present k.code 0 (length p / k.width)) (gives_pass (guard 0) (k.fields (drop (k.width * 0) p)) r e).0).0
 
   list_reads : (check (listed k) p ≡ Pass → zero < length p / k.width)
@@ -72,7 +49,7 @@ module _ {A : Type 0} (k : Listed A) (p : List ℕ) where
       ap length (sym s) ∙ length_each k.fields k.width (length p / k.width) p,
       λ i lt.
           reads_at h i lt
-          ∙ ap gives (sym (each_at k.fields k.width (length p / k.width) p i (k.fields (drop (k.width * 0) p)) lt)
+          ∙ ap Ok (sym (each_at k.fields k.width (length p / k.width) p i (k.fields (drop (k.width * 0) p)) lt)
           ∙ ap (λ (l : List A). get_or l i (k.fields (drop (k.width * 0) p))) s),
     )),
   )
@@ -89,7 +66,7 @@ reads (tailed {A} k) law p r = (
       let (pass, is) = gives_pass (check (tailed k) p) (k.fields p) r.0 e.0 in
       let t : k.rest p ≡ r.1 = ap (λ (g : Guard). tail_where g (k.rest p)) (sym pass) ∙ e.1 in
       (pass, λ i. (is i, t i))),
-  (λ e. (simp e.0 (ap gives (ap (λ (x : A × List ℕ). x.0) e.1)), simp e.0 (ap (λ (x : A × List ℕ). x.1) e.1))),
+  (λ e. (simp e.0 (ap Ok (ap (λ (x : A × List ℕ). x.0) e.1)), simp e.0 (ap (λ (x : A × List ℕ). x.1) e.1))),
 )
 reads (listed k) law p rs = list_reads k p (law.some p) rs
 
@@ -100,37 +77,37 @@ record_zero (tailed k) p r e = (r.0, e.0)
 record_zero (listed k) p rs (r₀, e₀, n, e) = (r₀, e₀)
 
 -- what a writer wrote are the record's bytes, and no check refused
-pub wrote : (g : Guard) (code : ℕ) (bs out : List ℕ) (n : ℕ) → (put_checked g code bs out).0 ≡ Wrote n
+pub wrote : (g : Guard) (code : ℕ) (bs out : List ℕ) (n : ℕ) → (put_checked g code bs out).0 ≡ Ok n
     → (take n (put_checked g code bs out).1 ≡ bs) × (g ≡ Pass)
 wrote g code bs out n e = go g (room code (length bs) (length out)) e
   where
-    go : (g r : Guard) → (effect (room_last g r) bs out).0 ≡ Wrote n → (take n (effect (room_last g r) bs out).1 ≡ bs) × (g ≡ Pass)
-    go Pass Pass k = (take_at bs (drop (length bs) out) n (cc), refl)
-    go Pass (Refused x) k = let z : ◌≡◌ {A = ℕ} 0 1 = cc in absurd (omega arith)
-    go (Refused x) Pass k = let z : ◌≡◌ {A = ℕ} 0 1 = cc in absurd (omega arith)
-    go (Refused x) (Refused y) k = let z : ◌≡◌ {A = ℕ} 0 1 = cc in absurd (omega arith)
+    go : (g r : Guard) → (effect (room_last g r) bs out).0 ≡ Ok n → (take n (effect (room_last g r) bs out).1 ≡ bs) × (g ≡ Pass)
+    go (Ok _) (Ok _) k = (take_at bs (drop (length bs) out) n (cc), refl)
+    go (Ok _) (Err x) k = let z : ◌≡◌ {A = ℕ} 0 1 = cc in absurd (omega arith)
+    go (Err x) (Ok _) k = let z : ◌≡◌ {A = ℕ} 0 1 = cc in absurd (omega arith)
+    go (Err x) (Err y) k = let z : ◌≡◌ {A = ℕ} 0 1 = cc in absurd (omega arith)
 
 -- and the count is theirs
-pub counted : (g : Guard) (bs out : List ℕ) (n : ℕ) → (effect g bs out).0 ≡ Wrote n → n ≡ length bs
-counted Pass bs out n e = cc
-counted (Refused x) bs out n e = let z : ◌≡◌ {A = ℕ} 0 1 = cc in absurd (omega arith)
+pub counted : (g : Guard) (bs out : List ℕ) (n : ℕ) → (effect g bs out).0 ≡ Ok n → n ≡ length bs
+counted (Ok _) bs out n e = cc
+counted (Err x) bs out n e = let z : ◌≡◌ {A = ℕ} 0 1 = cc in absurd (omega arith)
 
 -- ---- what writing leaves of the buffer
 
 pub leaves : (g : Guard) (code : ℕ) (bs out : List ℕ) → Leaves (put_checked g code bs out) out
-leaves (Refused e) code bs out = refl
-leaves Pass code bs out = go (room code (length bs) (length out)) refl
+leaves (Err e) code bs out = refl
+leaves (Ok _) code bs out = go (room code (length bs) (length out)) refl
   where
     go : (r : Guard) → room code (length bs) (length out) ≡ r → Leaves (effect r bs out) out
-    go Pass q =
+    go (Ok _) q =
         let fits = room_pass code (length bs) (length out) q in
         (fits, length-append bs (drop (length bs) out) ∙ omega (arith, length-drop (length bs) out), drop_at bs (drop (length bs) out) (length bs) refl)
-    go (Refused e) q = refl
+    go (Err e) q = refl
 
 pub rewrite_leaves : {A : Type 0} (o : Outcome A) (writes : A → Effect) (out : List ℕ) → ((a : A) → Leaves (writes a) out)
     → Leaves (rewrite o writes out) out
-rewrite_leaves (gives a) writes out h = h a
-rewrite_leaves (refuses e) writes out h = refl
+rewrite_leaves (Ok a) writes out h = h a
+rewrite_leaves (Err e) writes out h = refl
 
 pub normalise_leaves : (f : Form) (p out : List ℕ) → Leaves (normalise f p out) out
 normalise_leaves f p out = rewrite_leaves (outcome (check f p) (whole f p)) (λ r. written f r out) out (λ r. leaves (refuse f r) (code f) (bytes f r) out)
@@ -181,8 +158,8 @@ module _ (f : Form) (law : Law f) where
     where
       go : (g : Guard) → check f p ≡ g
           → rewrite (outcome g (whole f p)) (λ r. written f r out) out ≡ put_checked g (code f) (without (loss f) p) out
-      go Pass q = ap₂ {C = Effect} (λ g bs. put_checked g (code f) bs out) (law.writable p b q) (law.kept p b q)
-      go (Refused r) q = refl
+      go (Ok _) q = ap₂ {C = Effect} (λ g bs. put_checked g (code f) bs out) (law.writable p b q) (law.kept p b q)
+      go (Err r) q = refl
 
   -- so a function that checks, and then writes what is kept, normalises
   pub normalises : {x : Effect} (p out bs : List ℕ) (g : Guard) → Bytes p → x ≡ put_checked g (code f) bs out → g ≡ check f p

@@ -1,13 +1,12 @@
 -- A kind of payload is one row; what its contracts cite and what R1.3 says of it, in the words of R6, are defined once, for every row.
-use Rattle.std.specs.Prelude.{◌≡◌, ◌↔◌, List, [], ℕ, ◌*◌, ◌/◌, ◌<◌, length, get_or, take, drop}
+use Rattle.std.specs.Prelude.{◌≡◌, ◌↔◌, List, [], ℕ, ◌*◌, ◌/◌, ◌<◌, length, get_or, take, drop, Ok}
 use Rattle.payload_util.specs.Bytes.{Bytes, each, flat}
-use Rattle.payload_util.specs.Refusals.{◌also◌}
+use Rattle.payload_util.specs.Refusals.{◌also◌, Outcome, Guard}
+use Rattle.payload_util.specs.declared.Row.TheVariants.{Folded}
 use Rattle.payload_util.specs.Guards.{not_empty, present}
 use Rattle.payload_util.specs.Loss.{Loss, without, within_limits}
-use Rattle.payload_util.specs.Outcome.{Outcome, gives, outcome, tail_where}
+use Rattle.payload_util.specs.Outcome.{outcome, tail_where}
 use Rattle.payload_util.specs.Writing.{Effect, put_checked, rewrite}
-use Rattle.payload_util.specs.declared.Guard.{Guard}
-use Rattle.payload_util.specs.declared.Written.TheVariants.{Wrote}
 
 -- The row of a kind whose record has only fixed fields: its code byte, what its reader checks, the fields of a payload whether it is
 -- accepted or not, what its writer refuses a record for, except lack of room, the bytes of a record, and what reading loses.
@@ -126,7 +125,7 @@ write (listed k) = λ rs out. written (listed k) rs out
 
 -- the strict check: the reader's checks, then row 17 for the first byte, by offset, that reading would fold
 abbrev pub strict : Form → List ℕ → Guard
-strict f p = check f p also within_limits 17 (code f) (loss f) p
+strict f p = check f p also within_limits Folded (code f) (loss f) p
 
 -- normalise: read a payload and write the record again
 abbrev pub normalise : Form → List ℕ → List ℕ → Effect
@@ -134,21 +133,21 @@ normalise f p out = rewrite (outcome (check f p) (whole f p)) (λ r. written f r
 
 -- the payload is accepted: the reader gives a record; for a list, record 0
 abbrev pub Accepted : Form → List ℕ → Type 0
-Accepted (fixed {A} k) p = (r : A) × (read (fixed k) p ≡ gives r)
-Accepted (tailed {A} k) p = (r : A) × (read (tailed k) p ≡ gives r)
-Accepted (listed {A} k) p = (r : A) × (read (listed k) p 0 ≡ gives r)
+Accepted (fixed {A} k) p = (r : A) × (read (fixed k) p ≡ Ok r)
+Accepted (tailed {A} k) p = (r : A) × (read (tailed k) p ≡ Ok r)
+Accepted (listed {A} k) p = (r : A) × (read (listed k) p 0 ≡ Ok r)
 
 -- the payload is accepted and reads as this record; for a list, each index i below length / width gives record i of it
 abbrev pub ReadsAs : (f : Form) → List ℕ → Record f → Type 0
-ReadsAs (fixed k) p r = read (fixed k) p ≡ gives r
-ReadsAs (tailed k) p r = (read (tailed k) p ≡ gives r.0) × (tail (tailed k) p ≡ r.1)
+ReadsAs (fixed k) p r = read (fixed k) p ≡ Ok r
+ReadsAs (tailed k) p r = (read (tailed k) p ≡ Ok r.0) × (tail (tailed k) p ≡ r.1)
 ReadsAs (listed {A} k) p rs =
-    (r₀ : A) × (read (listed k) p 0 ≡ gives r₀) × (length rs ≡ length p / k.width)
-    × ((i : ℕ) → i < length p / k.width → read (listed k) p i ≡ gives (get_or rs i r₀))
+    (r₀ : A) × (read (listed k) p 0 ≡ Ok r₀) × (length rs ≡ length p / k.width)
+    × ((i : ℕ) → i < length p / k.width → read (listed k) p i ≡ Ok (get_or rs i r₀))
 
 -- the record is written without refusal into some buffer, and these are then the buffer's first bytes, as many as the writer counts
 abbrev pub WritesAs : (f : Form) → Record f → List ℕ → Type 0
-WritesAs f r b = (out : List ℕ) × (n : ℕ) × ((written f r out).0 ≡ Wrote n) × (b ≡ take n (written f r out).1)
+WritesAs f r b = (out : List ℕ) × (n : ℕ) × ((written f r out).0 ≡ Ok n) × (b ≡ take n (written f r out).1)
 
 -- every accepted payload reads as a record; payloads read as the same record exactly when they are equal without what is lost; records give
 -- the same bytes exactly when they are equal

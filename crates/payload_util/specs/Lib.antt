@@ -5,4 +5,5 @@ pub mod Guards
 pub mod Writing
 pub mod Loss
 pub mod Form
+pub mod Law
 pub mod Prelude
