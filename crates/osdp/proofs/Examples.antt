@@ -2,7 +2,7 @@
 -- Assumes nothing.
 use mathlib.Core.Path.{refl}
 use mathlib.Core.List.{[], ◌∷◌}
-use Rattle.payload_util.specs.Refusals.{row, in_order}
+use Rattle.payload_util.specs.Refusals.{in_order, refusal}
 use Rattle.payload_util.specs.Guards.{exact_len, at_least, blocks_from, declared_len, at_most, tail_len, room, present}
 use Rattle.payload_util.specs.Loss.{within_limits}
 use Rattle.payload_util.specs.Form.{ReadsAs}
@@ -18,14 +18,15 @@ use Rattle.osdp.specs.declared.Kind.TheVariants.{Led, Out}
 use Rattle.osdp.specs.Kinds.{form, kind_of}
 use Rattle.osdp.specs.ByCode.{not_too_long, kind_for}
 use Rattle.osdp.specs.Starred.{RefusedAs, AllHold, none, ◌and◌}
-use Rattle.osdp.specs.Examples.{row_examples, order_examples, code_examples, unstarred, distinct_led, field_examples, refusal_examples}
+use Rattle.osdp.specs.Examples.{row_examples, order_examples, code_examples, unstarred, distinct_led, field_examples, refusal_examples, number_examples}
 use Rattle.osdp.proofs.Starred.{one, both, empty}
+use Rattle.payload_util.specs.declared.Row.TheVariants.{PayloadNotMultiple, UnknownOutputCode}
 
-unknown : RefusedAs (form Out) (0x03 ∷ 0x07 ∷ 0x0A ∷ 0x00 ∷ []) (row 7 0x68 0 0)
+unknown : RefusedAs (form Out) (0x03 ∷ 0x07 ∷ 0x0A ∷ 0x00 ∷ []) (refusal UnknownOutputCode 0x68 0 0)
 unfolding in_order blocks_from read_output_code codes_known
 unknown i = refl
 
-three_bytes : RefusedAs (form Out) (0x03 ∷ 0x07 ∷ 0x0A ∷ []) (row 5 0x68 4 3)
+three_bytes : RefusedAs (form Out) (0x03 ∷ 0x07 ∷ 0x0A ∷ []) (refusal PayloadNotMultiple 0x68 4 3)
 unfolding blocks_from
 three_bytes i = refl
 
@@ -66,3 +67,8 @@ pub refusals_hold : AllHold refusal_examples
 unfolding refusal_examples exact_len at_least declared_len tail_len room
 refusals_hold =
     refl and refl and refl and refl and refl and refl and refl and refl and refl and refl and refl and refl and refl and none
+
+pub numbers_hold : AllHold number_examples
+unfolding number_examples
+numbers_hold =
+    refl and refl and refl and refl and refl and refl and refl and refl and refl and refl and refl and refl and refl and refl and refl and refl and refl and refl and refl and refl and refl and none

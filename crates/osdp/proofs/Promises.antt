@@ -4,18 +4,13 @@ use mathlib.Core.Path.{◌≡◌, refl, sym, ap, subst, ◌∙◌}
 use mathlib.Core.List.{List, ◌++◌}
 use Prim.Native.Nat.{ℕ, ◌≤◌}
 use native.Mathlib.Omega.{arith}
-use borrow.Author.Tests.{le-leb}
 use lib.ListN.{length, take, drop}
 use Rattle.payload_util.specs.Bytes.{Bytes}
-use Rattle.payload_util.specs.Refusals.{◌also◌}
+use Rattle.payload_util.specs.Refusals.{◌also◌, Outcome, Guard, Pass}
 use Rattle.payload_util.specs.Guards.{room}
-use Rattle.payload_util.specs.Outcome.{Outcome, gives, refuses}
 use Rattle.payload_util.specs.Writing.{Effect, effect, put_checked, rewrite}
 use Rattle.payload_util.specs.Loss.{limits, without, limited, within_limits}
 use Rattle.payload_util.specs.Form.{code, loss, check as check_of, strict as strict_of, normalise as normalise_of}
-use Rattle.payload_util.specs.declared.Guard.{Guard}
-use Rattle.payload_util.specs.declared.Guard.TheVariants.{Pass, Refused}
-use Rattle.payload_util.specs.declared.Written.TheVariants.{Wrote, Refused as NotWritten}
 use Rattle.payload_util.specs.declared.Refusal.{Refusal}
 use Rattle.payload_util.proofs.Guards.{check_pass, also_pass, pass_room}
 use Rattle.payload_util.proofs.InOrder.{all_pass}
@@ -24,21 +19,22 @@ use Rattle.payload_util.proofs.Scheme.{wrote, normalise_is}
 use Rattle.osdp.specs.declared.Side.{Side}
 use Rattle.osdp.specs.declared.Kind.{Kind}
 use Rattle.osdp.specs.declared.Kind.TheVariants.{Nak}
-use Rattle.osdp.specs.declared.Lookup.TheVariants.{Carried}
 use Rattle.osdp.specs.Kinds.{form, kind_of}
+use Rattle.payload_util.specs.declared.Row.TheVariants.{Folded}
 use Rattle.osdp.specs.ByCode.{longest, not_too_long, kind_for, check, strict, normalise}
 use Rattle.osdp.specs.Signed.{Short}
 use Rattle.osdp.specs.Promises.{LosesNothing, Promises}
 use Rattle.osdp.proofs.Laws.{law, uncut, no_limits}
-use Rattle.osdp.proofs.Lookups.{kind_gives}
+use Rattle.osdp.proofs.Lookups.{by_kind, kind_gives}
+use Rattle.std.specs.Prelude.{Ok, Err}
 
 -- ---- what strict passes is kept whole
 
-unchanged : (k : Kind) (p : List ℕ) → (k ≡ Nak → ⊥) → within_limits 17 (code (form k)) (loss (form k)) p ≡ Pass → without (loss (form k)) p ≡ p
+unchanged : (k : Kind) (p : List ℕ) → (k ≡ Nak → ⊥) → within_limits Folded (code (form k)) (loss (form k)) p ≡ Pass → without (loss (form k)) p ≡ p
 unfolding within_limits
 unchanged k p n e =
     kept_whole (loss (form k)) p (uncut k p (λ is. absurd (n is))) (kept_all (limits (loss (form k)) p) p
-    (λ at lt. check_pass _ _ (all_pass (limited 17 (code (form k)) (loss (form k)) p) (length p) e at lt)))
+    (λ at lt. check_pass _ _ (all_pass (limited Folded (code (form k)) (loss (form k)) p) (length p) e at lt)))
 
 pub loses_nothing : LosesNothing
 loses_nothing k l r m s n p = unchanged k p n (no_limits k l r m s p)
@@ -46,31 +42,25 @@ loses_nothing k l r m s n p = unchanged k p n (no_limits k l r m s p)
 -- ---- writing
 
 -- the count is that of the bytes
-count_is : (g : Guard) (code : ℕ) (bs out : List ℕ) (n : ℕ) → (put_checked g code bs out).0 ≡ Wrote n → n ≡ length bs
+count_is : (g : Guard) (code : ℕ) (bs out : List ℕ) (n : ℕ) → (put_checked g code bs out).0 ≡ Ok n → n ≡ length bs
 count_is g code bs out n e = go (g also room code (length bs) (length out)) e
   where
-    go : (h : Guard) → (effect h bs out).0 ≡ Wrote n → n ≡ length bs
-    go Pass k = cc
-    go (Refused r) k = let z : ◌≡◌ {A = ℕ} 0 1 = cc in absurd (omega arith)
-
-module _ (side : Side) (c : ℕ) where
-  -- a shorter payload is of the same kind
-  still : (q : List ℕ) (k : Kind) → kind_of side c ≡ Carried k → length q ≤ longest → kind_for side c q ≡ gives k
-  unfolding kind_for not_too_long
-  still q k e h = simp (e, le-leb _ _ h)
+    go : (h : Guard) → (effect h bs out).0 ≡ Ok n → n ≡ length bs
+    go (Ok _) k = cc
+    go (Err r) k = let z : ◌≡◌ {A = ℕ} 0 1 = cc in absurd (omega arith)
 
 module _ (k : Kind) (p out : List ℕ) (b : Bytes p) where
   -- normalise of one kind
   normal : normalise_of (form k) p out ≡ put_checked (check_of (form k) p) (code (form k)) (without (loss (form k)) p) out
   normal = normalise_is (form k) (law k) p out b
 
-  succeeds : length p ≤ length out → check_of (form k) p ≡ Pass → (n : ℕ) × ((normalise_of (form k) p out).0 ≡ Wrote n)
+  succeeds : length p ≤ length out → check_of (form k) p ≡ Pass → (n : ℕ) × ((normalise_of (form k) p out).0 ≡ Ok n)
   succeeds room g =
       let l : length (without (loss (form k)) p) ≤ length out = omega (arith, without_le (loss (form k)) p) in
       (length (without (loss (form k)) p), ap (λ (x : Effect). x.0) normal ∙ simp (g, pass_room (code (form k)) _ _ l))
 
-  module _ (n : ℕ) (w : (normalise_of (form k) p out).0 ≡ Wrote n) where
-    w' : (put_checked (check_of (form k) p) (code (form k)) (without (loss (form k)) p) out).0 ≡ Wrote n
+  module _ (n : ℕ) (w : (normalise_of (form k) p out).0 ≡ Ok n) where
+    w' : (put_checked (check_of (form k) p) (code (form k)) (without (loss (form k)) p) out).0 ≡ Ok n
     w' = sym (ap (λ (x : Effect). x.0) normal) ∙ w
 
     passes : check_of (form k) p ≡ Pass
@@ -86,42 +76,42 @@ module _ (k : Kind) (p out : List ℕ) (b : Bytes p) where
 
 module _ (side : Side) (c : ℕ) (p out : List ℕ) (b : Bytes p) where
   one : length p ≤ length out → (o : Outcome Kind) → kind_for side c p ≡ o
-      → (check side c p ≡ Pass → (n : ℕ) × ((normalise side c p out).0 ≡ Wrote n))
-      × ((n : ℕ) × ((normalise side c p out).0 ≡ Wrote n) → check side c p ≡ Pass)
-  one room (gives k) e = rw e (succeeds k p out b room, λ (n, w). passes k p out b n w)
-  one room (refuses r) e =
+      → (check side c p ≡ Pass → (n : ℕ) × ((normalise side c p out).0 ≡ Ok n))
+      × ((n : ℕ) × ((normalise side c p out).0 ≡ Ok n) → check side c p ≡ Pass)
+  one room (Ok k) e = rw e (succeeds k p out b room, λ (n, w). passes k p out b n w)
+  one room (Err r) e =
       rw e (λ h. let z : ◌≡◌ {A = ℕ} 0 1 = cc in absurd (omega arith), λ (n, h). let z : ◌≡◌ {A = ℕ} 0 1 = cc in absurd (omega arith))
 
-  two : (n : ℕ) (o : Outcome Kind) → kind_for side c p ≡ o → (normalise side c p out).0 ≡ Wrote n
+  two : (n : ℕ) (o : Outcome Kind) → kind_for side c p ≡ o → (normalise side c p out).0 ≡ Ok n
       → (n ≤ length p) × (check side c (take n (normalise side c p out).1) ≡ Pass)
-  two n (gives k) e h =
-      let w : (normalise_of (form k) p out).0 ≡ Wrote n = rw e at h in
+  two n (Ok k) e h =
+      let w : (normalise_of (form k) p out).0 ≡ Ok n = rw e at h in
       let (named, short) = kind_gives side c p k e in
-      let same = still side c (without (loss (form k)) p) k named (omega (arith, without_le (loss (form k)) p)) in
+      let same = by_kind side c (without (loss (form k)) p) k named (omega (arith, without_le (loss (form k)) p)) in
       (no_more k p out b n w, rw (e, written_is k p out b n w, same) ((law k).steady p ∙ passes k p out b n w))
-  two n (refuses r) e h = let w = rw e at h in let z : ◌≡◌ {A = ℕ} 0 1 = cc in absurd (omega arith)
+  two n (Err r) e h = let w = rw e at h in let z : ◌≡◌ {A = ℕ} 0 1 = cc in absurd (omega arith)
 
-  refused : (e : Refusal) (o : Outcome Kind) → kind_for side c p ≡ o → check side c p ≡ Refused e → normalise side c p out ≡ (NotWritten e, out)
-  refused e (gives k) q h = let h' : check_of (form k) p ≡ Refused e = rw q at h in rw q (simp h')
-  refused e (refuses r) q h = let h' : Refused r ≡ Refused e = rw q at h in rw q (let same : r ≡ e = cc in rw same)
+  refused : (e : Refusal) (o : Outcome Kind) → kind_for side c p ≡ o → check side c p ≡ Err e → normalise side c p out ≡ (Err e, out)
+  refused e (Ok k) q h = let h' : check_of (form k) p ≡ Err e = rw q at h in rw q (simp h')
+  refused e (Err r) q h = let h' : Err r ≡ Err e = rw q at h in rw q (let same : r ≡ e = cc in rw same)
 
-  three : (o : Outcome Kind) → kind_for side c p ≡ o → strict side c p ≡ Pass → (kind_of side c ≡ Carried Nak → ⊥)
-      → length p ≤ length out → normalise side c p out ≡ (Wrote (length p), p ++ drop (length p) out)
-  three (gives k) e s n room =
+  three : (o : Outcome Kind) → kind_for side c p ≡ o → strict side c p ≡ Pass → (kind_of side c ≡ Ok Nak → ⊥)
+      → length p ≤ length out → normalise side c p out ≡ (Ok (length p), p ++ drop (length p) out)
+  three (Ok k) e s n room =
       let s' : strict_of (form k) p ≡ Pass = rw e at s in
-      let (g, f) = also_pass (check_of (form k) p) (within_limits 17 (code (form k)) (loss (form k)) p) s' in
-      let whole = unchanged k p (λ is. n ((kind_gives side c p k e).0 ∙ ap Carried is)) f in
+      let (g, f) = also_pass (check_of (form k) p) (within_limits Folded (code (form k)) (loss (form k)) p) s' in
+      let whole = unchanged k p (λ is. n ((kind_gives side c p k e).0 ∙ ap Ok is)) f in
       rw e (normal k p out b ∙ simp (g, whole, pass_room (code (form k)) (length p) (length out) room))
-  three (refuses r) e s n room = let s' = rw e at s in let z : ◌≡◌ {A = ℕ} 0 1 = cc in absurd (omega arith)
+  three (Err r) e s n room = let s' = rw e at s in let z : ◌≡◌ {A = ℕ} 0 1 = cc in absurd (omega arith)
 
   -- a count that C is told fits
   short : (o : Outcome Kind) → kind_for side c p ≡ o → Short (rewrite o (λ k. normalise_of (form k) p out) out).0
-  short (gives k) e = subst (λ (x : Effect). Short x.0) (sym (normal k p out b)) (go (check_of (form k) p also room (code (form k)) _ _))
+  short (Ok k) e = subst (λ (x : Effect). Short x.0) (sym (normal k p out b)) (go (check_of (form k) p also room (code (form k)) _ _))
     where
       go : (h : Guard) → Short (effect h (without (loss (form k)) p) out).0
-      go Pass = omega (arith, without_le (loss (form k)) p, (kind_gives side c p k e).1)
-      go (Refused r) = tt
-  short (refuses r) e = tt
+      go (Ok _) = omega (arith, without_le (loss (form k)) p, (kind_gives side c p k e).1)
+      go (Err r) = tt
+  short (Err r) e = tt
 
 pub promises_hold : Promises
 promises_hold side c p out b =

@@ -5,7 +5,7 @@ use mathlib.Core.List.{[], ◌∷◌}
 use Prim.Native.Nat.{ℕ, zero, suc, ◌<◌}
 use native.Mathlib.Omega.{arith}
 use lib.ListN.{replicate}
-use Rattle.payload_util.specs.Refusals.{row, in_order}
+use Rattle.payload_util.specs.Refusals.{in_order, refusal}
 use Rattle.payload_util.specs.Guards.{exact_len, at_least, blocks_from, declared_len, at_most, room, present}
 use Rattle.payload_util.specs.Loss.{within_limits}
 use Rattle.payload_util.specs.Form.{ReadsAs}
@@ -21,6 +21,7 @@ use Rattle.codes.specs.ReplyCode.{read_reply}
 use Rattle.osdp.specs.Kinds.{form, kind_of}
 use Rattle.osdp.specs.ByCode.{not_too_long, kind_for}
 use Rattle.osdp.specs.Starred.{starred, RefusedAs, AllHold, none, ◌and◌, green_bytes, green, dark}
+use Rattle.payload_util.specs.declared.Row.TheVariants.{PayloadNotMultiple, UnknownOutputCode}
 
 -- what holds of each record of a list of one or two
 pub one : (P : ℕ → Type 0) → P 0 → (k : ℕ) → k < 1 → P k
@@ -49,15 +50,15 @@ pub both : {A B : Type 0} → A → B → A × B
 both a b = (a, b)
 
 -- a list that is refused is refused for every record that is asked for
-thirteen : RefusedAs (form Led) (replicate 13 0x00) (row 5 0x69 14 13)
+thirteen : RefusedAs (form Led) (replicate 13 0x00) (refusal PayloadNotMultiple 0x69 14 13)
 unfolding blocks_from
 thirteen k = refl
 
-pub empty : RefusedAs (form Led) [] (row 5 0x69 14 0)
+pub empty : RefusedAs (form Led) [] (refusal PayloadNotMultiple 0x69 14 0)
 unfolding blocks_from
 empty k = refl
 
-unknown : RefusedAs (form Out) (0x03 ∷ 0x05 ∷ 0x0A ∷ 0x00 ∷ 0x04 ∷ 0x07 ∷ 0x00 ∷ 0x00 ∷ []) (row 7 0x68 0 0)
+unknown : RefusedAs (form Out) (0x03 ∷ 0x05 ∷ 0x0A ∷ 0x00 ∷ 0x04 ∷ 0x07 ∷ 0x00 ∷ 0x00 ∷ []) (refusal UnknownOutputCode 0x68 0 0)
 unfolding in_order blocks_from read_output_code codes_known
 unknown k = refl
 

@@ -1,9 +1,8 @@
 -- What strict adds to check, what decides acceptance, and what is left of a buffer.
 -- Assumes nothing.
 use mathlib.Core.Path.{ap, ◌∙◌}
-use Rattle.payload_util.specs.Refusals.{◌also◌}
+use Rattle.payload_util.specs.Refusals.{◌also◌, Guard}
 use Rattle.payload_util.specs.Form.{code, loss, refuse, bytes, check, normalise}
-use Rattle.payload_util.specs.declared.Guard.{Guard}
 use Rattle.payload_util.proofs.InOrder.{also_none}
 use Rattle.payload_util.proofs.Limits.{none_folded}
 use Rattle.payload_util.proofs.Scheme.{leaves, rewrite_leaves, normalise_leaves}
@@ -17,7 +16,7 @@ steady k p = (law k).steady p
 
 pub strict_adds : StrictAdds
 strict_adds = (
-  (λ k p passes kept. simp (passes, none_folded 17 (code (form k)) (loss (form k)) p kept)),
+  (λ k p passes kept. simp (passes, none_folded Folded (code (form k)) (loss (form k)) p kept)),
   (λ k l r m s p. ap (λ (g : Guard). check (form k) p also g) (no_limits k l r m s p) ∙ also_none (check (form k) p)),
 )
 

@@ -1,54 +1,53 @@
 -- Examples beside the starred ones: each is what docs/REQUIREMENTS.md says, and is proved of the definitions.
-use Rattle.std.specs.Prelude.{replicate, pos, negsuc, List, [], ◌∷◌}
-use Rattle.payload_util.specs.Prelude.{row}
-use Rattle.payload_util.specs.declared.Guard.TheVariants.{Pass, Refused}
-use Rattle.payload_util.specs.declared.Written.TheVariants.{Wrote, Refused as NotWritten}
-use Rattle.led.specs.declared.{LedRecord.LedRecord, LedColor.TheVariants.Green, LedColor.TheVariants.Amber, LedColor.TheVariants.Cyan, LedColor.TheVariants.White}
+use Rattle.std.specs.Prelude.{replicate, pos, negsuc, List, [], ◌∷◌, Ok, Err}
+use Rattle.led.specs.declared.LedRecord.{LedRecord}
+use Rattle.led.specs.declared.LedColor.TheVariants.{Green, Amber, Cyan, White}
 use Rattle.text.specs.declared.TextCommand.TheVariants.{PermanentNoWrap, TemporaryNoWrap}
-use Rattle.biometric.specs.declared.{BioType.TheVariants.RightThumb, BioType.TheVariants.RightLittle}
+use Rattle.biometric.specs.declared.BioType.TheVariants.{RightThumb, RightLittle}
 use Rattle.biometric.specs.declared.BioFormat.TheVariants.{FingerprintRawPgm, FingerprintAnsi378}
 use Rattle.nak.specs.declared.NakErrorCode.TheVariants.{UnknownCommandCode}
 use Rattle.osdp.specs.declared.Side.TheVariants.{Command, Reply}
-use Rattle.osdp.specs.declared.Kind.TheVariants.{Led, Out, Text, BioRead, BioMatch, FileTransfer, Mfg, Raw, Fmt, BioReadR, BioMatchR, Nak, Xrd}
-use Rattle.osdp.specs.declared.Kind.TheVariants.{Keypad, ComSet, Com, PdId, LStatR, AcuRxSize, KeepActive}
+use Rattle.osdp.specs.declared.Kind.TheVariants.{Led, Out, Text, BioRead, BioMatch, FileTransfer, Mfg, Raw, Fmt, BioReadR, BioMatchR, Nak, Xrd, Keypad, ComSet, Com, PdId, LStatR, AcuRxSize, KeepActive}
 use Rattle.osdp.specs.Starred.{Case, reads, is_refused, has_no_record, is_written, is_not_written, check_says, strict_says, normalise_gives, has_bits, is_told, is_counted, green_bytes}
+use Rattle.payload_util.specs.Refusals.{Pass, refusal}
+use Rattle.payload_util.specs.declared.Row.TheVariants.{UnknownCommand, UnknownReply, PayloadLength, PayloadTooShort, PayloadNotMultiple, DeclaredLength, UnknownOutputCode, UnprintableText, UnknownTextCommand, UnknownNakError, EmptyList, TailTooLong, TailLength, NotCarried, BufferTooShort, NoSuchRecord, Folded, NotAFrame, WrongCheck, FrameTooLong, PayloadTooLong}
 
 -- the example of each row of the refusal table (R7)
 unfoldable pub row_examples : List Case
 row_examples =
-    check_says Command 0x63 [] (Refused (row 1 0x63 0 0))
-    ∷ check_says Reply 0x42 [] (Refused (row 2 0x42 0 0))
-    ∷ is_refused BioRead (0x00 ∷ 0x01 ∷ 0x01 ∷ []) (row 3 0x73 4 3)
-    ∷ is_refused Nak [] (row 4 0x41 1 0)
-    ∷ is_refused Led [] (row 5 0x69 14 0)
-    ∷ is_refused Raw (0x00 ∷ 0x00 ∷ 0x08 ∷ 0x00 ∷ []) (row 6 0x50 0 0)
-    ∷ is_refused Out (0x03 ∷ 0x07 ∷ 0x0A ∷ 0x00 ∷ []) (row 7 0x68 0 0)
-    ∷ is_refused Text (0x00 ∷ 0x01 ∷ 0x00 ∷ 0x01 ∷ 0x01 ∷ 0x01 ∷ 0x1F ∷ []) (row 8 0x6B 0 0)
-    ∷ is_refused Text (0x00 ∷ 0x09 ∷ 0x00 ∷ 0x01 ∷ 0x01 ∷ 0x00 ∷ []) (row 9 0x6B 0 0)
-    ∷ is_refused Nak (0x0A ∷ []) (row 10 0x41 0 0)
-    ∷ is_not_written Led [] (replicate 2 0xA5) (row 11 0x69 0 0)
-    ∷ is_not_written Text (record { reader = 0; command = PermanentNoWrap; temp_time_s = 0; row = 1; column = 1 }, replicate 256 0x41) (replicate 2 0xA5) (row 12 0x6B 0 0)
-    ∷ is_not_written Raw (record { reader = 0; format_code = 0; bit_count = 9 }, 0x00 ∷ []) (replicate 2 0xA5) (row 13 0x50 0 0)
-    ∷ check_says Command 0x60 [] (Refused (row 14 0x60 0 0))
-    ∷ is_not_written Mfg (record { oui_0 = 0x00; oui_1 = 0x06; oui_2 = 0x8E }, []) (replicate 2 0xA5) (row 15 0x80 3 2)
-    ∷ has_no_record Led (replicate 14 0x00) 1 (row 16 0x69 1 1)
-    ∷ strict_says Command 0x73 (0x00 ∷ 0x12 ∷ 0x00 ∷ 0x32 ∷ []) (Refused (row 17 0x73 1 0x12))
-    ∷ check_says Command 0x80 (replicate 65547 0x00) (Refused (row 28 0x80 65546 65547))
+    check_says Command 0x63 [] (Err (refusal UnknownCommand 0x63 0 0))
+    ∷ check_says Reply 0x42 [] (Err (refusal UnknownReply 0x42 0 0))
+    ∷ is_refused BioRead (0x00 ∷ 0x01 ∷ 0x01 ∷ []) (refusal PayloadLength 0x73 4 3)
+    ∷ is_refused Nak [] (refusal PayloadTooShort 0x41 1 0)
+    ∷ is_refused Led [] (refusal PayloadNotMultiple 0x69 14 0)
+    ∷ is_refused Raw (0x00 ∷ 0x00 ∷ 0x08 ∷ 0x00 ∷ []) (refusal DeclaredLength 0x50 0 0)
+    ∷ is_refused Out (0x03 ∷ 0x07 ∷ 0x0A ∷ 0x00 ∷ []) (refusal UnknownOutputCode 0x68 0 0)
+    ∷ is_refused Text (0x00 ∷ 0x01 ∷ 0x00 ∷ 0x01 ∷ 0x01 ∷ 0x01 ∷ 0x1F ∷ []) (refusal UnprintableText 0x6B 0 0)
+    ∷ is_refused Text (0x00 ∷ 0x09 ∷ 0x00 ∷ 0x01 ∷ 0x01 ∷ 0x00 ∷ []) (refusal UnknownTextCommand 0x6B 0 0)
+    ∷ is_refused Nak (0x0A ∷ []) (refusal UnknownNakError 0x41 0 0)
+    ∷ is_not_written Led [] (replicate 2 0xA5) (refusal EmptyList 0x69 0 0)
+    ∷ is_not_written Text (record { reader = 0; command = PermanentNoWrap; temp_time_s = 0; row = 1; column = 1 }, replicate 256 0x41) (replicate 2 0xA5) (refusal TailTooLong 0x6B 0 0)
+    ∷ is_not_written Raw (record { reader = 0; format_code = 0; bit_count = 9 }, 0x00 ∷ []) (replicate 2 0xA5) (refusal TailLength 0x50 0 0)
+    ∷ check_says Command 0x60 [] (Err (refusal NotCarried 0x60 0 0))
+    ∷ is_not_written Mfg (record { oui_0 = 0x00; oui_1 = 0x06; oui_2 = 0x8E }, []) (replicate 2 0xA5) (refusal BufferTooShort 0x80 3 2)
+    ∷ has_no_record Led (replicate 14 0x00) 1 (refusal NoSuchRecord 0x69 1 1)
+    ∷ strict_says Command 0x73 (0x00 ∷ 0x12 ∷ 0x00 ∷ 0x32 ∷ []) (Err (refusal Folded 0x73 1 0x12))
+    ∷ check_says Command 0x80 (replicate 65547 0x00) (Err (refusal PayloadTooLong 0x80 65546 65547))
     ∷ []
 
 -- R7.3: two rows apply, and the first of them is given
 unfoldable pub order_examples : List Case
 order_examples =
-    check_says Command 0x63 (replicate 65547 0x00) (Refused (row 1 0x63 0 0))
-    ∷ check_says Reply 0x42 (replicate 65547 0x00) (Refused (row 2 0x42 0 0))
-    ∷ check_says Command 0x60 (replicate 65547 0x00) (Refused (row 14 0x60 0 0))
-    ∷ check_says Command 0x69 (replicate 65547 0x00) (Refused (row 28 0x69 65546 65547))
-    ∷ strict_says Command 0x60 [] (Refused (row 14 0x60 0 0))
-    ∷ strict_says Command 0x80 (replicate 65547 0x00) (Refused (row 28 0x80 65546 65547))
-    ∷ strict_says Command 0x73 (0x00 ∷ 0x12 ∷ 0x00 ∷ []) (Refused (row 3 0x73 4 3))
-    ∷ is_refused Out (0x03 ∷ 0x07 ∷ 0x0A ∷ []) (row 5 0x68 4 3)
-    ∷ is_refused Text (0x00 ∷ 0x01 ∷ 0x00 ∷ 0x01 ∷ 0x01 ∷ 0x02 ∷ 0x1F ∷ []) (row 6 0x6B 0 0)
-    ∷ is_not_written Text (record { reader = 0; command = PermanentNoWrap; temp_time_s = 0; row = 1; column = 1 }, replicate 256 0x1F) [] (row 8 0x6B 0 0)
+    check_says Command 0x63 (replicate 65547 0x00) (Err (refusal UnknownCommand 0x63 0 0))
+    ∷ check_says Reply 0x42 (replicate 65547 0x00) (Err (refusal UnknownReply 0x42 0 0))
+    ∷ check_says Command 0x60 (replicate 65547 0x00) (Err (refusal NotCarried 0x60 0 0))
+    ∷ check_says Command 0x69 (replicate 65547 0x00) (Err (refusal PayloadTooLong 0x69 65546 65547))
+    ∷ strict_says Command 0x60 [] (Err (refusal NotCarried 0x60 0 0))
+    ∷ strict_says Command 0x80 (replicate 65547 0x00) (Err (refusal PayloadTooLong 0x80 65546 65547))
+    ∷ strict_says Command 0x73 (0x00 ∷ 0x12 ∷ 0x00 ∷ []) (Err (refusal PayloadLength 0x73 4 3))
+    ∷ is_refused Out (0x03 ∷ 0x07 ∷ 0x0A ∷ []) (refusal PayloadNotMultiple 0x68 4 3)
+    ∷ is_refused Text (0x00 ∷ 0x01 ∷ 0x00 ∷ 0x01 ∷ 0x01 ∷ 0x02 ∷ 0x1F ∷ []) (refusal DeclaredLength 0x6B 0 0)
+    ∷ is_not_written Text (record { reader = 0; command = PermanentNoWrap; temp_time_s = 0; row = 1; column = 1 }, replicate 256 0x1F) [] (refusal UnprintableText 0x6B 0 0)
     ∷ []
 
 -- R2.5: a payload of each kind under its code byte
@@ -120,25 +119,51 @@ field_examples =
     ∷ has_bits 26 (0x12 ∷ 0x34 ∷ 0x56 ∷ 0x80 ∷ []) (0 ∷ 0 ∷ 0 ∷ 1 ∷ 0 ∷ 0 ∷ 1 ∷ 0 ∷ 0 ∷ 0 ∷ 1 ∷ 1 ∷ 0 ∷ 1 ∷ 0 ∷ 0 ∷ 0 ∷ 1 ∷ 0 ∷ 1 ∷ 0 ∷ 1 ∷ 1 ∷ 0 ∷ 1 ∷ 0 ∷ [])
     ∷ has_bits 99 (0x80 ∷ []) (1 ∷ 0 ∷ 0 ∷ 0 ∷ 0 ∷ 0 ∷ 0 ∷ 0 ∷ [])
     ∷ is_told Pass (pos 0)
-    ∷ is_told (Refused (row 28 0x80 65546 65547)) (negsuc 27)
-    ∷ is_counted (Wrote 3) (pos 3)
-    ∷ is_counted (NotWritten (row 15 0x80 3 2)) (negsuc 14)
+    ∷ is_told (Err (refusal PayloadTooLong 0x80 65546 65547)) (negsuc 27)
+    ∷ is_counted (Ok 3) (pos 3)
+    ∷ is_counted (Err (refusal BufferTooShort 0x80 3 2)) (negsuc 14)
     ∷ []
 
 -- R101.10: refusals of the seven kinds
 unfoldable pub refusal_examples : List Case
 refusal_examples =
-    is_refused Keypad (0x00 ∷ []) (row 4 0x53 2 1)
-    ∷ is_refused Keypad (0x00 ∷ 0x01 ∷ []) (row 6 0x53 0 0)
-    ∷ is_refused Keypad (0x00 ∷ 0x01 ∷ 0x31 ∷ 0x32 ∷ []) (row 6 0x53 0 0)
-    ∷ is_not_written Keypad (record { reader = 0; digit_count = 1 }, []) (replicate 3 0xA5) (row 13 0x53 0 0)
-    ∷ is_not_written Keypad (record { reader = 0; digit_count = 1 }, 0x31 ∷ 0x32 ∷ []) [] (row 13 0x53 0 0)
-    ∷ is_not_written Keypad (record { reader = 0; digit_count = 1 }, 0x31 ∷ []) (replicate 2 0xA5) (row 15 0x53 3 2)
-    ∷ is_refused ComSet (0x00 ∷ 0x00 ∷ 0x00 ∷ 0x00 ∷ []) (row 3 0x6E 5 4)
-    ∷ is_refused Com (0x00 ∷ 0x00 ∷ 0x00 ∷ 0x00 ∷ 0x00 ∷ 0x00 ∷ []) (row 3 0x54 5 6)
-    ∷ is_refused PdId (replicate 13 0x00) (row 3 0x45 12 13)
-    ∷ is_refused LStatR (0x00 ∷ []) (row 3 0x48 2 1)
-    ∷ is_refused AcuRxSize (0x00 ∷ 0x00 ∷ 0x00 ∷ []) (row 3 0x7B 2 3)
-    ∷ is_refused KeepActive [] (row 3 0xA7 2 0)
-    ∷ is_not_written KeepActive (record { duration_ms = 1000 }) (replicate 1 0xA5) (row 15 0xA7 2 1)
+    is_refused Keypad (0x00 ∷ []) (refusal PayloadTooShort 0x53 2 1)
+    ∷ is_refused Keypad (0x00 ∷ 0x01 ∷ []) (refusal DeclaredLength 0x53 0 0)
+    ∷ is_refused Keypad (0x00 ∷ 0x01 ∷ 0x31 ∷ 0x32 ∷ []) (refusal DeclaredLength 0x53 0 0)
+    ∷ is_not_written Keypad (record { reader = 0; digit_count = 1 }, []) (replicate 3 0xA5) (refusal TailLength 0x53 0 0)
+    ∷ is_not_written Keypad (record { reader = 0; digit_count = 1 }, 0x31 ∷ 0x32 ∷ []) [] (refusal TailLength 0x53 0 0)
+    ∷ is_not_written Keypad (record { reader = 0; digit_count = 1 }, 0x31 ∷ []) (replicate 2 0xA5) (refusal BufferTooShort 0x53 3 2)
+    ∷ is_refused ComSet (0x00 ∷ 0x00 ∷ 0x00 ∷ 0x00 ∷ []) (refusal PayloadLength 0x6E 5 4)
+    ∷ is_refused Com (0x00 ∷ 0x00 ∷ 0x00 ∷ 0x00 ∷ 0x00 ∷ 0x00 ∷ []) (refusal PayloadLength 0x54 5 6)
+    ∷ is_refused PdId (replicate 13 0x00) (refusal PayloadLength 0x45 12 13)
+    ∷ is_refused LStatR (0x00 ∷ []) (refusal PayloadLength 0x48 2 1)
+    ∷ is_refused AcuRxSize (0x00 ∷ 0x00 ∷ 0x00 ∷ []) (refusal PayloadLength 0x7B 2 3)
+    ∷ is_refused KeepActive [] (refusal PayloadLength 0xA7 2 0)
+    ∷ is_not_written KeepActive (record { duration_ms = 1000 }) (replicate 1 0xA5) (refusal BufferTooShort 0xA7 2 1)
+    ∷ []
+
+-- the number that C is told for each row
+unfoldable pub number_examples : List Case
+number_examples =
+    is_told (Err (refusal UnknownCommand 0 0 0)) (negsuc 0)
+    ∷ is_told (Err (refusal UnknownReply 0 0 0)) (negsuc 1)
+    ∷ is_told (Err (refusal PayloadLength 0 0 0)) (negsuc 2)
+    ∷ is_told (Err (refusal PayloadTooShort 0 0 0)) (negsuc 3)
+    ∷ is_told (Err (refusal PayloadNotMultiple 0 0 0)) (negsuc 4)
+    ∷ is_told (Err (refusal DeclaredLength 0 0 0)) (negsuc 5)
+    ∷ is_told (Err (refusal UnknownOutputCode 0 0 0)) (negsuc 6)
+    ∷ is_told (Err (refusal UnprintableText 0 0 0)) (negsuc 7)
+    ∷ is_told (Err (refusal UnknownTextCommand 0 0 0)) (negsuc 8)
+    ∷ is_told (Err (refusal UnknownNakError 0 0 0)) (negsuc 9)
+    ∷ is_told (Err (refusal EmptyList 0 0 0)) (negsuc 10)
+    ∷ is_told (Err (refusal TailTooLong 0 0 0)) (negsuc 11)
+    ∷ is_told (Err (refusal TailLength 0 0 0)) (negsuc 12)
+    ∷ is_told (Err (refusal NotCarried 0 0 0)) (negsuc 13)
+    ∷ is_told (Err (refusal BufferTooShort 0 0 0)) (negsuc 14)
+    ∷ is_told (Err (refusal NoSuchRecord 0 0 0)) (negsuc 15)
+    ∷ is_told (Err (refusal Folded 0 0 0)) (negsuc 16)
+    ∷ is_told (Err (refusal NotAFrame 0 0 0)) (negsuc 19)
+    ∷ is_told (Err (refusal WrongCheck 0 0 0)) (negsuc 20)
+    ∷ is_told (Err (refusal FrameTooLong 0 0 0)) (negsuc 21)
+    ∷ is_told (Err (refusal PayloadTooLong 0 0 0)) (negsuc 27)
     ∷ []

@@ -131,13 +131,7 @@ pub fn require_at_least(payload: &[u8], min: usize, code: u8) -> Result<(), Refu
 fn in_blocks(least: usize, block: usize, n: usize) -> bool
     ensures { result ≡ (ltb 0 block && leb least n && eqb (n % block) 0) }
 {
-    if block == 0 {
-        return false;
-    }
-    if n < least {
-        return false;
-    }
-    n % block == 0
+    0 < block && least <= n && n % block == 0
 }
 
 // Row 5, also for an empty payload.
@@ -209,11 +203,7 @@ pub fn require_tail_len(tail: &[u8], asked: usize, code: u8) -> Result<(), Refus
 pub fn end_need(offset: usize, len: usize) -> usize
     ensures { result ≡ min (offset + len) 18446744073709551615 }
 {
-    if offset <= 0xFFFF_FFFF_FFFF_FFFF - len {
-        offset + len
-    } else {
-        0xFFFF_FFFF_FFFF_FFFF
-    }
+    offset.saturating_add(len)
 }
 
 // Row 15: the buffer has room for what is to be written.
@@ -259,10 +249,7 @@ pub fn require_limit(
 pub fn folded(b: u8, highest: u8) -> u8
     ensures { result ≡ kept (up_to highest) b }
 {
-    if b <= highest {
-        return b;
-    }
-    0
+    if b <= highest { b } else { 0 }
 }
 
 // Folds the byte at an offset, and no other; an offset past the end changes nothing.
@@ -279,11 +266,7 @@ pub fn fold_at(out: &mut [u8], offset: usize, highest: u8)
 pub fn tail_from(payload: &[u8], offset: usize) -> &[u8]
     ensures { result.now ≡ drop offset payload.now }
 {
-    if offset <= payload.len() {
-        &payload[offset..]
-    } else {
-        &payload[..0]
-    }
+    payload.get(offset..).unwrap_or(&[])
 }
 
 // The tail of a payload that passed its checks; empty for any other payload.
@@ -300,25 +283,26 @@ pub fn tail_where(checked: Result<(), Refusal>, payload: &[u8], offset: usize) -
 pub fn byte_at(payload: &[u8], offset: usize) -> u8
     ensures { result ≡ byte_at payload.now offset }
 {
-    if offset < payload.len() {
-        payload[offset]
-    } else {
-        0
-    }
+    payload.get(offset).copied().unwrap_or(0)
 }
 
 pub fn u16_at(payload: &[u8], offset: usize) -> u16
     ensures { result ≡ u16_at payload.now offset }
 {
     let part = tail_from(payload, offset);
-    (byte_at(part, 0) as u16) + 256 * (byte_at(part, 1) as u16)
+    u16::from_le_bytes([byte_at(part, 0), byte_at(part, 1)])
 }
 
 pub fn u32_at(payload: &[u8], offset: usize) -> u32
     ensures { result ≡ u32_at payload.now offset }
 {
     let part = tail_from(payload, offset);
-    (u16_at(part, 0) as u32) + 65536 * (u16_at(part, 2) as u32)
+    u32::from_le_bytes([
+        byte_at(part, 0),
+        byte_at(part, 1),
+        byte_at(part, 2),
+        byte_at(part, 3),
+    ])
 }
 
 // The two bytes of a u16, and the four bytes of a u32.
@@ -337,14 +321,7 @@ pub fn high_byte(n: u16) -> u8
 pub fn u32_bytes(n: u32) -> [u8; 4]
     ensures { result ≡ u32_bytes n }
 {
-    let low = (n % 65536) as u16;
-    let high = (n / 65536) as u16;
-    [
-        low_byte(low),
-        high_byte(low),
-        low_byte(high),
-        high_byte(high),
-    ]
+    n.to_le_bytes()
 }
 
 // The longest piece of a copy.
