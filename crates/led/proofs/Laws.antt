@@ -11,19 +11,19 @@ use Rattle.payload_util.specs.Bytes.{Bytes, flat}
 use Rattle.payload_util.specs.Loss.{up_to, kept, keep, times, without}
 use Rattle.payload_util.specs.Guards.{blocks_from}
 use Rattle.payload_util.specs.Form.{loss, check, whole}
-use Rattle.payload_util.specs.declared.Guard.TheVariants.{Pass}
 use Rattle.payload_util.proofs.Below.{below}
 use Rattle.payload_util.proofs.Guards.{multiple_pass, pass_multiple}
 use Rattle.payload_util.proofs.Words.{low_byte, high_byte}
 use Rattle.payload_util.proofs.Parts.{by_head}
 use Rattle.payload_util.proofs.Each.{each_kept}
 use Rattle.payload_util.proofs.Losses.{length_keep}
-use Rattle.payload_util.proofs.Scheme.{Law}
+use Rattle.payload_util.specs.Law.{Law}
 use Rattle.payload_util.proofs.Forms.{listed_law}
 use Rattle.led.specs.Led.{color_byte, color_of, led_code, led_of, led_bytes, led_limits, leds}
 use Rattle.led.specs.declared.LedRecord.{LedRecord}
 use Rattle.led.specs.declared.LedColor.{LedColor}
 use Rattle.led.specs.declared.LedColor.TheVariants.{Black, Red, Green, Amber, Blue, Magenta, Cyan, White}
+use Rattle.payload_util.specs.Refusals.{Pass}
 
 -- a colour's byte reads back as the colour
 pub color_back : (c : LedColor) → color_of (color_byte c) ≡ c

@@ -6,18 +6,18 @@ use Prim.Native.Nat.{ℕ, ◌+◌, ◌*◌, ◌/◌, ◌<◌}
 use native.Mathlib.Nat.{add-zero}
 use native.Mathlib.Omega.{arith}
 use lib.ListN.{length, get_or}
-use Rattle.payload_util.specs.Refusals.{◌also◌, in_order}
+use Rattle.payload_util.specs.Refusals.{◌also◌, in_order, Guard}
 use Rattle.payload_util.specs.Loss.{any, times, limited, within_limits}
-use Rattle.payload_util.specs.declared.Guard.{Guard}
+use Rattle.payload_util.specs.declared.Row.{Row}
 use Rattle.payload_util.proofs.InOrder.{also_none, shifted, in_blocks}
 use Rattle.payload_util.proofs.Losses.{times_at}
 use Rattle.payload_util.proofs.Folds.{length_times}
 use Rattle.payload_util.proofs.Limits.{limit_at, by_limits}
 use Rattle.led.specs.Led.{led_code, led_limits, led_loss}
 
-module _ (number highest : ℕ) (p : List ℕ) where
+module _ (row : Row) (highest : ℕ) (p : List ℕ) where
   abbrev f : ℕ → Guard
-  f = limited number led_code (led_loss highest) p
+  f = limited row led_code (led_loss highest) p
 
   -- the bytes of one record
   abbrev pub record_limited : ℕ → Guard
@@ -28,7 +28,7 @@ module _ (number highest : ℕ) (p : List ℕ) where
     limit j lt = times_at (length p / 14) k j (led_limits highest) there lt
 
     abbrev color : ℕ → Guard
-    color j = limit_at number led_code highest p (14 * k + j)
+    color j = limit_at row led_code highest p (14 * k + j)
 
     pub record_limits : (color 5 also color 6 also color 12 also color 13) ≡ record_limited k
     unfolding in_order
@@ -53,7 +53,7 @@ module _ (number highest : ℕ) (p : List ℕ) where
         ))
 
   -- all records in order are all bytes in order
-  pub all_records : in_order record_limited 0 (length p / 14) ≡ within_limits number led_code (led_loss highest) p
+  pub all_records : in_order record_limited 0 (length p / 14) ≡ within_limits row led_code (led_loss highest) p
   all_records =
-      sym (by_limits number led_code (led_loss highest) p (14 * (length p / 14)) (omega (arith, length_times (length p / 14) (led_limits highest)))
+      sym (by_limits row led_code (led_loss highest) p (14 * (length p / 14)) (omega (arith, length_times (length p / 14) (led_limits highest)))
       ∙ in_blocks f record_limited 14 0 (length p / 14) (λ k lt. refl))

@@ -1,11 +1,11 @@
 -- osdp_LED (0x69), R4.1, §6.9, Tables 16 to 18: records of 14 bytes. Reader and LED; temporary control, on time, off time, on colour, off colour
 -- and timer u16; permanent control, on time, off time, on colour and off colour.
-use Rattle.std.specs.Prelude.{List, [], ◌∷◌, ◌++◌, ℕ, cond, ltb, length, drop}
-use Rattle.payload_util.specs.Prelude.{byte_at, u16_at, u16_bytes, positive_multiple_of}
-use Rattle.payload_util.specs.Prelude.{named, Keep, any, up_to, Loss, above_in_each, Outcome, gives, refuses, Form, listed}
-use Rattle.led.specs.declared.{LedColor.LedColor, LedTemporary.LedTemporary, LedPermanent.LedPermanent, LedRecord.LedRecord}
-use Rattle.led.specs.declared.{LedRead.LedRead, LedRead.TheVariants.Read, LedRead.TheVariants.Refused}
-use Rattle.led.specs.declared.{LedStep.LedStep, LedStep.TheVariants.Record, LedStep.TheVariants.Finished}
+use Rattle.std.specs.Prelude.{List, [], ◌∷◌, ◌++◌, ℕ, cond, ltb, length, drop, Option, None, Some}
+use Rattle.payload_util.specs.Prelude.{byte_at, u16_at, u16_bytes, positive_multiple_of, named, Keep, any, up_to, Loss, above_in_each, Form, listed}
+use Rattle.led.specs.declared.LedColor.{LedColor}
+use Rattle.led.specs.declared.LedTemporary.{LedTemporary}
+use Rattle.led.specs.declared.LedPermanent.{LedPermanent}
+use Rattle.led.specs.declared.LedRecord.{LedRecord}
 use Rattle.led.specs.declared.LedColor.TheVariants.{Black, Red, Green, Amber, Blue, Magenta, Cyan, White}
 
 -- Table 18, R3.4
@@ -55,13 +55,9 @@ permanent_of p = record {
 abbrev pub led_of : List ℕ → LedRecord
 led_of p = record { reader = byte_at p 0; led = byte_at p 1; temporary = temporary_of p; permanent = permanent_of p }
 
-abbrev pub led_outcome : LedRead → Outcome LedRecord
-led_outcome (Read r) = gives r
-led_outcome (Refused e) = refuses e
-
--- what is at an offset: a record, or fewer than 14 bytes
-abbrev pub step_led : List ℕ → ℕ → LedStep
-step_led p offset = cond (ltb (length (drop offset p)) 14) Finished (Record (led_of (drop offset p)))
+-- the record at an offset, unless fewer than 14 bytes are left from there
+abbrev pub led_at : List ℕ → ℕ → Option LedRecord
+led_at p offset = cond (ltb (length (drop offset p)) 14) None (Some (led_of (drop offset p)))
 
 abbrev pub temporary_bytes : LedTemporary → List ℕ
 temporary_bytes t =

@@ -1,29 +1,30 @@
 // osdp_LED (0x69), reader LED control: a list of records, each with a temporary and a permanent half.
 #![tactic(auto)]
 
-ghost use Rattle.std.specs.Prelude.{◌≡◌, ◌*◌, ◌/◌, ◌≤◌, ◌<◌, length, take};
-ghost use Rattle.payload_util.specs.Prelude.{in_order, keep, times, limited, within_limits, check, read, write, normalise};
-ghost use Rattle.lists.specs.List.{put_at};
+ghost use Rattle.std.specs.Prelude.{◌≡◌, ◌*◌, ◌/◌, ◌≤◌, ◌<◌, length, take, refl};
+ghost use Rattle.std.proofs.Common.{arith};
+ghost use Rattle.payload_util.specs.Prelude.{in_order, keep, times, limited, within_limits};
+ghost use Rattle.payload_util.specs.declared.Row.TheVariants.{Folded};
 ghost use Rattle.led.specs.Led.{color_byte, color_of, highest_color};
-ghost use Rattle.led.specs.Led.{temporary_of, permanent_of, led_of, led_outcome, led_bytes, led_code, step_led, led_limits, led_loss, leds};
+ghost use Rattle.led.specs.Led.{temporary_of, permanent_of, led_of, led_bytes, led_code, led_at, led_limits, led_loss, leds};
 
-use lists::{list_answer, put_at};
+use lists::{ListRecord, put_at};
 use payload_util::{
-    FOLDED, Guard, Refusal, Written, folded, high_byte, low_byte, put_payload, require_limit,
-    require_positive_multiple_of, require_present, tail_from, u16_at,
+    Payload, Refusal, Row, folded, high_byte, low_byte, put_payload, require_limit,
+    require_positive_multiple_of, tail_from, u16_at,
 };
 
 // Table 18.
-#[derive(Clone, Copy)]
+#[derive(Clone, Copy, Debug, PartialEq, Eq)]
 pub enum LedColor {
-    Black,
-    Red,
-    Green,
-    Amber,
-    Blue,
-    Magenta,
-    Cyan,
-    White,
+    Black = 0,
+    Red = 1,
+    Green = 2,
+    Amber = 3,
+    Blue = 4,
+    Magenta = 5,
+    Cyan = 6,
+    White = 7,
 }
 
 impl LedColor {
@@ -50,21 +51,12 @@ impl LedColor {
     pub fn as_byte(self) -> u8
         ensures { result ≡ color_byte self }
     {
-        match self {
-            LedColor::Black => 0,
-            LedColor::Red => 1,
-            LedColor::Green => 2,
-            LedColor::Amber => 3,
-            LedColor::Blue => 4,
-            LedColor::Magenta => 5,
-            LedColor::Cyan => 6,
-            LedColor::White => 7,
-        }
+        self as u8
     }
 }
 
 // Times are in units of 100 ms.
-#[derive(Clone, Copy)]
+#[derive(Clone, Copy, Debug, PartialEq, Eq)]
 pub struct LedTemporary {
     // Table 16: 0 no operation, 1 cancel, 2 set.
     pub control: u8,
@@ -101,13 +93,18 @@ impl LedTemporary {
         requires { 14 ≤ length buf.now }
         ensures { result ≡ temporary_of buf.now }
     {
-        let on_color = LedColor::from_byte(buf[5]);
-        let off_color = LedColor::from_byte(buf[6]);
-        LedTemporary::new(buf[2], buf[3], buf[4], on_color, off_color, u16_at(buf, 7))
+        LedTemporary {
+            control: buf[2],
+            on_time: buf[3],
+            off_time: buf[4],
+            on_color: LedColor::from_byte(buf[5]),
+            off_color: LedColor::from_byte(buf[6]),
+            timer: u16_at(buf, 7),
+        }
     }
 }
 
-#[derive(Clone, Copy)]
+#[derive(Clone, Copy, Debug, PartialEq, Eq)]
 pub struct LedPermanent {
     // Table 17: 0 no operation, 1 set.
     pub control: u8,
@@ -141,13 +138,17 @@ impl LedPermanent {
         requires { 14 ≤ length buf.now }
         ensures { result ≡ permanent_of buf.now }
     {
-        let on_color = LedColor::from_byte(buf[12]);
-        let off_color = LedColor::from_byte(buf[13]);
-        LedPermanent::new(buf[9], buf[10], buf[11], on_color, off_color)
+        LedPermanent {
+            control: buf[9],
+            on_time: buf[10],
+            off_time: buf[11],
+            on_color: LedColor::from_byte(buf[12]),
+            off_color: LedColor::from_byte(buf[13]),
+        }
     }
 }
 
-#[derive(Clone, Copy)]
+#[derive(Clone, Copy, Debug, PartialEq, Eq)]
 pub struct LedRecord {
     pub reader: u8,
     pub led: u8,
@@ -155,130 +156,91 @@ pub struct LedRecord {
     pub permanent: LedPermanent,
 }
 
-// What asking for a record by its index gives.
-#[derive(Clone, Copy)]
-pub enum LedRead {
-    Read(LedRecord),
-    Refused(Refusal),
+impl Payload for LedRecord {
+    const CODE: u8 = 0x69;
+
+    ghost form = { leds };
+
+    fn check(p: &[u8]) -> Result<(), Refusal> {
+        require_positive_multiple_of(p, Self::WIRE_LEN, Self::CODE)
+    }
+
+    // The payload as it came, and then its colours folded where it is: a colour above the highest becomes Black.
+    fn put_kept(p: &[u8], out: &mut [u8]) -> Result<usize, Refusal> {
+        let written = put_payload(p, Self::CODE, out)?;
+        Self::fold_all(p, out);
+        Ok(written)
+    }
+
+    #[tactic(auto, using(crate::proofs::Laws::led_law))]
+    fn keeps_law() {}
 }
 
-// What is at an offset: a record, or fewer bytes than a record has.
-#[derive(Clone, Copy)]
-pub enum LedStep {
-    Record(LedRecord),
-    Finished,
-}
+impl ListRecord for LedRecord {
+    const WIRE_LEN: usize = 14;
 
-impl LedRecord {
-    pub const CODE: u8 = 0x69;
+    ghost WIRE_LEN = { 14 };
 
-    pub const WIRE_LEN: usize = 14;
+    ghost fields = { led_of };
 
-    // The record at the start of a buffer.
-    fn fields(buf: &[u8]) -> LedRecord
-        requires { 14 ≤ length buf.now }
-        ensures { result ≡ led_of buf.now }
-    {
-        let temporary = LedTemporary::decode(buf);
-        let permanent = LedPermanent::decode(buf);
+    ghost bytes = { led_bytes };
+
+    ghost some_bytes = { Prim.omega arith };
+
+    ghost all_bytes = { λ r. refl };
+
+    fn code() -> u8 {
+        Self::CODE
+    }
+
+    fn fields(p: &[u8]) -> LedRecord {
         LedRecord {
-            reader: buf[0],
-            led: buf[1],
-            temporary,
-            permanent,
+            reader: p[0],
+            led: p[1],
+            temporary: LedTemporary::decode(p),
+            permanent: LedPermanent::decode(p),
         }
     }
 
+    fn encode_at(self, out: &mut [u8], offset: usize) -> Result<usize, Refusal> {
+        put_at(&self.to_bytes(), Self::CODE, out, offset)
+    }
+}
+
+impl LedRecord {
     // The record's bytes.
     fn to_bytes(self) -> [u8; 14]
         ensures { result ≡ led_bytes self }
     {
         let temporary = self.temporary;
         let permanent = self.permanent;
-        let temporary_on = temporary.on_color;
-        let temporary_off = temporary.off_color;
-        let permanent_on = permanent.on_color;
-        let permanent_off = permanent.off_color;
         [
             self.reader,
             self.led,
             temporary.control,
             temporary.on_time,
             temporary.off_time,
-            temporary_on.as_byte(),
-            temporary_off.as_byte(),
+            temporary.on_color.as_byte(),
+            temporary.off_color.as_byte(),
             low_byte(temporary.timer),
             high_byte(temporary.timer),
             permanent.control,
             permanent.on_time,
             permanent.off_time,
-            permanent_on.as_byte(),
-            permanent_off.as_byte(),
+            permanent.on_color.as_byte(),
+            permanent.off_color.as_byte(),
         ]
     }
 
-    pub fn check(p: &[u8]) -> Guard
-        ensures { result ≡ check leds p.now }
-    {
-        require_positive_multiple_of(p, Self::WIRE_LEN, Self::CODE)
-    }
-
-    // How many records a payload has.
-    pub fn count(p: &[u8]) -> usize
-        ensures { result ≡ length p.now / 14 }
-    {
-        p.len() / Self::WIRE_LEN
-    }
-
-    // The record at an index; the whole list is checked first.
-    pub fn decode(p: &[u8], index: usize) -> LedRead
-        ensures { led_outcome result ≡ read leds p.now index }
-    {
-        let checked = Self::check(p);
-        let Guard::Pass = checked else {
-            return LedRead::Refused(checked.refusal());
-        };
-        let present = require_present(index, Self::count(p), Self::CODE);
-        let Guard::Pass = present else {
-            return LedRead::Refused(present.refusal());
-        };
-        LedRead::Read(Self::fields(tail_from(p, Self::WIRE_LEN * index)))
-    }
-
-    // What is at an offset, which may also be past the end.
-    pub fn decode_at(p: &[u8], offset: usize) -> LedStep
-        ensures { result ≡ step_led p.now offset }
+    // The record at an offset, which may also be past the end; none if fewer bytes are left from there than a record has.
+    pub fn decode_at(p: &[u8], offset: usize) -> Option<LedRecord>
+        ensures { result ≡ led_at p.now offset }
     {
         let part = tail_from(p, offset);
         if part.len() < Self::WIRE_LEN {
-            return LedStep::Finished;
+            return None;
         }
-        LedStep::Record(Self::fields(part))
-    }
-
-    // Writes the record's bytes into out from any offset on; row 15 if they do not fit.
-    pub fn encode_at(self, out: &mut [u8], offset: usize) -> Written
-        ensures { (result, out.new) ≡ put_at led_code offset (led_bytes self) out.old }
-    {
-        let bytes = self.to_bytes();
-        put_at(&bytes, Self::CODE, out, offset)
-    }
-
-    // Writes a lent list, record by record from the front of out: row 11 for an empty list, then row 15.
-    pub fn encode(records: &[LedRecord], out: &mut [u8]) -> Written
-        ensures { (result, out.new) ≡ write leds records.now out.old }
-    {
-        let n = records.len();
-        let answer = list_answer(n, Self::WIRE_LEN, Self::CODE, out.len());
-        let Written::Wrote(_) = answer else {
-            return answer;
-        };
-        let mut k = 0;
-        while k < n {
-            records[k].encode_at(out, k * Self::WIRE_LEN);
-            k += 1;
-        }
-        answer
+        Some(Self::fields(part))
     }
 
     // Folds the colours of a record into a copy of it. All are read before one is written, so the compiler need not read any again.
@@ -301,69 +263,39 @@ impl LedRecord {
         requires { take (length p.now) out.old ≡ p.now }
         ensures { out.new ≡ keep (times (length p.now / 14) (led_limits highest_color)) out.old }
     {
-        let n = Self::count(p);
-        let mut k: usize = 0;
-        while k < n {
+        for k in 0..p.len() / Self::WIRE_LEN {
             let start = k * Self::WIRE_LEN;
             let end = start + Self::WIRE_LEN;
             Self::fold(&p[start..end], &mut out[start..end]);
-            k += 1;
         }
     }
 
-    // Reads the list and writes it again: colours above the highest become Black.
-    pub fn normalise(p: &[u8], out: &mut [u8]) -> Written
-        ensures { (result, out.new) ≡ normalise leds p.now out.old }
-    {
-        let written = put_payload(Self::check(p), p, Self::CODE, out);
-        let Written::Wrote(n) = written else {
-            return written;
-        };
-        Self::fold_all(p, out);
-        Written::Wrote(n)
-    }
-
-    // The row with this number for the first colour of a record, by offset, that is above the highest.
-    fn record_within(p: &[u8], index: usize, highest: u8, number: u8) -> Guard
+    // The row for the first colour of a record, by offset, that is above the highest.
+    fn record_within(p: &[u8], index: usize, highest: u8, row: Row) -> Result<(), Refusal>
         requires { index < length p.now / 14 }
-        ensures { result ≡ in_order (limited number led_code (led_loss highest) p.now) (14 * index) 14 }
+        ensures { result ≡ in_order (limited row led_code (led_loss highest) p.now) (14 * index) 14 }
     {
         let start = Self::WIRE_LEN * index;
-        let temporary_on = require_limit(p, start + 5, highest, number, Self::CODE);
-        let Guard::Pass = temporary_on else {
-            return temporary_on;
-        };
-        let temporary_off = require_limit(p, start + 6, highest, number, Self::CODE);
-        let Guard::Pass = temporary_off else {
-            return temporary_off;
-        };
-        let permanent_on = require_limit(p, start + 12, highest, number, Self::CODE);
-        let Guard::Pass = permanent_on else {
-            return permanent_on;
-        };
-        require_limit(p, start + 13, highest, number, Self::CODE)
+        require_limit(p, start + 5, highest, row, Self::CODE)?;
+        require_limit(p, start + 6, highest, row, Self::CODE)?;
+        require_limit(p, start + 12, highest, row, Self::CODE)?;
+        require_limit(p, start + 13, highest, row, Self::CODE)
     }
 
-    // The row with this number for the first colour of the payload, by offset, that is above the highest.
-    fn colors_within(p: &[u8], highest: u8, number: u8) -> Guard
-        ensures { result ≡ within_limits number led_code (led_loss highest) p.now }
+    // The row for the first colour of the payload, by offset, that is above the highest.
+    fn colors_within(p: &[u8], highest: u8, row: Row) -> Result<(), Refusal>
+        ensures { result ≡ within_limits row led_code (led_loss highest) p.now }
     {
-        let n = Self::count(p);
-        let mut k: usize = 0;
-        while k < n {
-            let checked = Self::record_within(p, k, highest, number);
-            let Guard::Pass = checked else {
-                return checked;
-            };
-            k += 1;
+        for k in 0..Self::count(p) {
+            Self::record_within(p, k, highest, row)?;
         }
-        Guard::Pass
+        Ok(())
     }
 
     // Row 17 for the first colour of the payload, by offset, that reading would fold.
-    pub fn within_limits(p: &[u8]) -> Guard
-        ensures { result ≡ within_limits 17 led_code (led_loss highest_color) p.now }
+    pub fn within_limits(p: &[u8]) -> Result<(), Refusal>
+        ensures { result ≡ within_limits Folded led_code (led_loss highest_color) p.now }
     {
-        Self::colors_within(p, LedColor::HIGHEST, FOLDED)
+        Self::colors_within(p, LedColor::HIGHEST, Row::Folded)
     }
 }

@@ -10,30 +10,32 @@ use lib.ListN.{length, take, drop, get_or, length-append, length-drop, drop_of_l
 use borrow.Author.Tests.{lt-ltb}
 use lib.Seq.{take-suc, take_at, take-length, drop-append-add, drop-drop, length-take-le}
 use Rattle.payload_util.specs.Bytes.{flat}
-use Rattle.payload_util.specs.Refusals.{◌also◌}
+use Rattle.payload_util.specs.Refusals.{◌also◌, Outcome, Guard, Pass}
 use Rattle.payload_util.specs.Guards.{room, not_empty}
 use Rattle.payload_util.specs.Writing.{Effect, effect, put, put_checked}
-use Rattle.payload_util.specs.declared.Guard.{Guard}
-use Rattle.payload_util.specs.declared.Guard.TheVariants.{Pass, Refused as Stopped}
 use Rattle.payload_util.specs.declared.Refusal.{Refusal}
-use Rattle.payload_util.specs.declared.Written.{Written}
-use Rattle.payload_util.specs.declared.Written.TheVariants.{Wrote, Refused}
 use Rattle.payload_util.proofs.Guards.{room_pass, pass_room, also_pass}
 use Rattle.payload_util.proofs.Parts.{part_to_end}
 use Rattle.lists.specs.List.{answer, list_answer, put_at}
+use Rattle.std.specs.Prelude.{Ok, Err}
 
 -- bytes that were put at the front of the part that starts at a place; e is that part afterwards
-module _ (code at : ℕ) (bytes out e : List ℕ) (r : Written) where
+module _ (code at : ℕ) (bytes out e : List ℕ) (r : Outcome ℕ) where
   pub placed : room code (at + length bytes) (length out) ≡ Pass
       → (r, e) ≡ put code (bytes ++ []) (take (length out - at) (drop at out))
       → (r, take at out ++ (e ++ drop (length out - at) (drop at out))) ≡ put_at code at bytes out
   placed fits h =
       let l = room_pass code (at + length bytes) (length out) fits in
       let end : length out ≤ at + (length out - at) = omega arith in
-      let w : ◌≡◌ {A = Effect} (r, e) (Wrote (length bytes), bytes ++ drop (length bytes) (drop at out)) =
+      let w : ◌≡◌ {A = Effect} (r, e) (Ok (length bytes), bytes ++ drop (length bytes) (drop at out)) =
       h ∙ simp (append-nil, part_to_end, pass_room code (length bytes) (length (drop at out)) (simp length-drop (omega arith))) in
       ap (λ (x : Effect). (x.0, take at out ++ (x.1 ++ drop (length out - at) (drop at out)))) w
       ∙ simp (fits, drop-drop, drop_of_length-le out end, append-nil)
+
+-- a part that does not fit is not written
+pub not_placed : (code at : ℕ) (bytes out : List ℕ) {r : Refusal} → room code (at + length bytes) (length out) ≡ Err r
+    → put_at code at bytes out ≡ (Err r, out)
+not_placed code at bytes out h = simp h
 
 -- ---- records of one size
 
@@ -98,7 +100,7 @@ module _ {X : Type 0} (bytes : X → List ℕ) (size : ℕ) (fixed : (x : X) →
         )
 
     -- the same, as a loop's turn has it: e is the buffer after the writer of a record that was read from the list
-    pub turn : {w : Written} {now e : List ℕ} (none : X) (k : ℕ) → length xs * size ≤ length o → k < length xs
+    pub turn : {w : Outcome ℕ} {now e : List ℕ} (none : X) (k : ℕ) → length xs * size ≤ length o → k < length xs
         → now ≡ state bytes size xs o k → ◌≡◌ {A = Effect} (w, e) (put_at code (k * size) (bytes (get_or xs k none)) now)
         → e ≡ state bytes size xs o (k + 1)
     turn none k f h at put =
@@ -106,34 +108,34 @@ module _ {X : Type 0} (bytes : X → List ℕ) (size : ℕ) (fixed : (x : X) →
         ∙ state_step f none k h ∙ rw add-one
 
     -- for a function that first takes the answer, as `list_answer` gives it, and then writes the records
-    module _ {a : Written} (q : a ≡ list_answer (length xs) size code (length o)) where
+    module _ {a : Outcome ℕ} (q : a ≡ list_answer (length xs) size code (length o)) where
       abbrev guard : Guard
       guard = not_empty code xs also room code (length (flat bytes xs)) (length o)
 
       known : a ≡ answer guard (length xs * size)
       known = q ∙ answer_is code xs o
 
-      pub refused_is : {e : Refusal} → a ≡ Refused e → ◌≡◌ {A = Effect} (a, o) (put_checked (not_empty code xs) code (flat bytes xs) o)
+      pub refused_is : {e : Refusal} → a ≡ Err e → ◌≡◌ {A = Effect} (Err e, o) (put_checked (not_empty code xs) code (flat bytes xs) o)
       refused_is {e} p = go guard known
         where
-          go : (g : Guard) → a ≡ answer g (length xs * size) → ◌≡◌ {A = Effect} (a, o) (effect g (flat bytes xs) o)
-          go Pass r = let z : ◌≡◌ {A = ℕ} 0 1 = cc in absurd (omega arith)
-          go (Stopped x) r = ap (λ (y : Written). (y, o)) r
+          go : (g : Guard) → a ≡ answer g (length xs * size) → ◌≡◌ {A = Effect} (Err e, o) (effect g (flat bytes xs) o)
+          go (Ok _) r = let z : ◌≡◌ {A = ℕ} 0 1 = cc in absurd (omega arith)
+          go (Err x) r = ap (λ (y : Outcome ℕ). (y, o)) (sym p ∙ r)
 
-      pub records_fit : {n : ℕ} → a ≡ Wrote n → length xs * size ≤ length o
+      pub records_fit : {n : ℕ} → a ≡ Ok n → length xs * size ≤ length o
       records_fit {n} p = go guard refl known
         where
           go : (g : Guard) → guard ≡ g → a ≡ answer g (length xs * size) → length xs * size ≤ length o
-          go Pass e r = omega (arith, flat_length xs, room_pass code (length (flat bytes xs)) (length o) (also_pass (not_empty code xs) _ e).1)
-          go (Stopped x) e r = let z : ◌≡◌ {A = ℕ} 0 1 = cc in absurd (omega arith)
+          go (Ok _) e r = omega (arith, flat_length xs, room_pass code (length (flat bytes xs)) (length o) (also_pass (not_empty code xs) _ e).1)
+          go (Err x) e r = let z : ◌≡◌ {A = ℕ} 0 1 = cc in absurd (omega arith)
 
-      pub written_is : {n : ℕ} {now : List ℕ} (k : ℕ) → a ≡ Wrote n → now ≡ state bytes size xs o k → k ≡ length xs
-          → ◌≡◌ {A = Effect} (a, now) (put_checked (not_empty code xs) code (flat bytes xs) o)
+      pub written_is : {n : ℕ} {now : List ℕ} (k : ℕ) → a ≡ Ok n → now ≡ state bytes size xs o k → k ≡ length xs
+          → ◌≡◌ {A = Effect} (Ok n, now) (put_checked (not_empty code xs) code (flat bytes xs) o)
       written_is {n} {now} k p at all = go guard known
         where
           end : now ≡ flat bytes xs ++ drop (length (flat bytes xs)) o
           end = at ∙ rw (all, take-length, ← flat_length xs)
 
-          go : (g : Guard) → a ≡ answer g (length xs * size) → ◌≡◌ {A = Effect} (a, now) (effect g (flat bytes xs) o)
-          go Pass r = ap₂ {C = Effect} (λ y l. (y, l)) (r ∙ ap Wrote (sym (flat_length xs))) end
-          go (Stopped x) r = let z : ◌≡◌ {A = ℕ} 0 1 = cc in absurd (omega arith)
+          go : (g : Guard) → a ≡ answer g (length xs * size) → ◌≡◌ {A = Effect} (Ok n, now) (effect g (flat bytes xs) o)
+          go (Ok _) r = ap₂ {C = Effect} (λ y l. (y, l)) (sym p ∙ r ∙ ap Ok (sym (flat_length xs))) end
+          go (Err x) r = let z : ◌≡◌ {A = ℕ} 0 1 = cc in absurd (omega arith)

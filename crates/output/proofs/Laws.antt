@@ -5,30 +5,30 @@ use mathlib.Core.List.{List, [], ◌∷◌}
 use Prim.Native.Nat.{ℕ, zero, suc, ◌+◌, ◌*◌, ◌/◌, ◌≤◌, ◌<◌}
 use native.Mathlib.Nat.{mod-add-div}
 use native.Mathlib.Omega.{arith}
-use borrow.Author.Tests.{le-leb}
-use lib.ListN.{length, drop, length-drop}
+use lib.ListN.{length}
 use lib.Seq.{get_or-drop}
 use Rattle.payload_util.specs.Bytes.{byte_at, flat}
-use Rattle.payload_util.specs.Refusals.{row, in_order}
-use Rattle.payload_util.specs.Guards.{at_least, positive_multiple_of}
-use Rattle.payload_util.specs.Outcome.{gives, guard_of, value_or}
+use Rattle.payload_util.specs.Refusals.{in_order, Pass, refusal}
+use Rattle.payload_util.specs.Guards.{positive_multiple_of}
+use Rattle.payload_util.specs.Outcome.{guard_of, value_or}
 use Rattle.payload_util.specs.Form.{check}
-use Rattle.payload_util.specs.declared.Guard.TheVariants.{Pass}
 use Rattle.payload_util.proofs.Guards.{also_pass, multiple_pass, pass_multiple}
 use Rattle.payload_util.proofs.InOrder.{all_pass, pass_all}
 use Rattle.payload_util.proofs.Table.{exact, exact_value}
 use Rattle.payload_util.proofs.Words.{low_byte, high_byte}
 use Rattle.payload_util.proofs.Parts.{by_head}
 use Rattle.payload_util.proofs.Each.{each_kept}
-use Rattle.payload_util.proofs.Scheme.{Law}
+use Rattle.payload_util.specs.Law.{Law}
 use Rattle.payload_util.proofs.Forms.{listed_law}
-use Rattle.output.specs.Output.{out_code, output_byte, output_codes, read_output_code, code_known, codes_known, out_of, read_out_at, out_bytes, outputs}
+use Rattle.output.specs.Output.{out_code, output_byte, output_codes, read_output_code, code_known, codes_known, out_of, out_bytes, outputs}
 use Rattle.output.specs.declared.OutputRecord.{OutputRecord}
 use Rattle.output.specs.declared.OutputControlCode.{OutputControlCode}
 use Rattle.output.specs.declared.OutputControlCode.TheVariants.{Nop, PermanentOffAbortTimed, PermanentOnAbortTimed, PermanentOffAllowTimed, PermanentOnAllowTimed, TemporaryOnResume, TemporaryOffResume}
+use Rattle.std.specs.Prelude.{Ok}
+use Rattle.payload_util.specs.declared.Row.TheVariants.{UnknownOutputCode}
 
 -- a code's byte reads back as the code
-pub output_back : (c : OutputControlCode) → read_output_code (output_byte c) ≡ gives c
+pub output_back : (c : OutputControlCode) → read_output_code (output_byte c) ≡ Ok c
 unfolding read_output_code
 output_back Nop = refl
 output_back PermanentOffAbortTimed = refl
@@ -39,13 +39,13 @@ output_back TemporaryOnResume = refl
 output_back TemporaryOffResume = refl
 
 -- a byte that reads as a code is that code's byte
-pub output_exact : (b : ℕ) (c : OutputControlCode) → read_output_code b ≡ gives c → output_byte c ≡ b
+pub output_exact : (b : ℕ) (c : OutputControlCode) → read_output_code b ≡ Ok c → output_byte c ≡ b
 unfolding read_output_code
-output_exact b c e = exact output_byte (row 7 out_code 0 0) output_codes b c e
+output_exact b c e = exact output_byte (refusal UnknownOutputCode out_code 0 0) output_codes b c e
 
 output_kept : (b : ℕ) → guard_of (read_output_code b) ≡ Pass → output_byte (value_or Nop (read_output_code b)) ≡ b
 unfolding read_output_code
-output_kept b e = exact_value output_byte (row 7 out_code 0 0) output_codes b Nop e
+output_kept b e = exact_value output_byte (refusal UnknownOutputCode out_code 0 0) output_codes b Nop e
 
 -- the bytes up to 6 are codes
 low_known : (b : ℕ) → b ≤ 6 → guard_of (read_output_code b) ≡ Pass
@@ -75,13 +75,6 @@ module _ (p : List ℕ) (g : check outputs p ≡ Pass) where
   out_codes : (k : ℕ) → k < length p / 4 → code_known p k ≡ Pass
   unfolding codes_known
   out_codes = all_pass (code_known p) (length p / 4) (also_pass (positive_multiple_of 4 out_code p) (codes_known p) g).1
-
-  -- each record of an accepted list can be read by itself
-  pub record_reads : (k : ℕ) → k < length p / 4 → read_out_at (drop (4 * k) p) ≡ gives (out_of (drop (4 * k) p))
-  unfolding at_least
-  record_reads k h =
-      let long : 4 ≤ length (drop (4 * k) p) = simp length-drop (omega arith) in
-      simp (le-leb 4 (length (drop (4 * k) p)) long, get_or-drop (4 * k) p 1 0, out_codes k h)
 
 -- the codes of records are known in their bytes
 code_written : (rs : List OutputRecord) (k : ℕ) → k < length rs → code_known (flat out_bytes rs) k ≡ Pass

@@ -1,13 +1,11 @@
 -- osdp_OUT (0x68), R4.2, §6.8, Table 14: records of four bytes. Output, code and timer u16.
-use Rattle.std.specs.Prelude.{List, [], ◌∷◌, ℕ, ◌+◌, ◌*◌, ◌/◌, length}
-use Rattle.payload_util.specs.Prelude.{byte_at, u16_at, u16_bytes, row, ◌also◌, at_least, positive_multiple_of, in_order}
-use Rattle.payload_util.specs.Prelude.{named, Outcome, gives, refuses, outcome, guard_of, value_or, nothing, Form, listed}
-use Rattle.payload_util.specs.declared.Guard.{Guard}
+use Rattle.std.specs.Prelude.{List, [], ◌∷◌, ℕ, ◌+◌, ◌*◌, ◌/◌, length, Ok, Err}
+use Rattle.payload_util.specs.Prelude.{byte_at, u16_at, u16_bytes, ◌also◌, at_least, positive_multiple_of, in_order, named, Outcome, outcome, guard_of, value_or, nothing, Form, listed}
 use Rattle.output.specs.declared.OutputControlCode.TheVariants.{Nop, PermanentOffAbortTimed, PermanentOnAbortTimed, PermanentOffAllowTimed, PermanentOnAllowTimed, TemporaryOnResume, TemporaryOffResume}
-use Rattle.output.specs.declared.OutputControlCodeRead.TheVariants.{Read as CodeRead, Refused as CodeRefused}
-use Rattle.output.specs.declared.OutputRead.TheVariants.{Read, Refused}
-use Rattle.output.specs.declared.{OutputControlCode.OutputControlCode, OutputControlCodeRead.OutputControlCodeRead}
-use Rattle.output.specs.declared.{OutputRecord.OutputRecord, OutputRead.OutputRead}
+use Rattle.output.specs.declared.OutputControlCode.{OutputControlCode}
+use Rattle.output.specs.declared.OutputRecord.{OutputRecord}
+use Rattle.payload_util.specs.Refusals.{Guard, refusal}
+use Rattle.payload_util.specs.declared.Row.TheVariants.{UnknownOutputCode}
 
 abbrev pub out_code : ℕ
 out_code = 0x68
@@ -29,11 +27,7 @@ output_codes =
 
 -- the code that has this byte; row 7 for any other byte
 unfoldable pub read_output_code : ℕ → Outcome OutputControlCode
-read_output_code b = named output_byte gives (refuses (row 7 out_code 0 0)) output_codes b
-
-abbrev pub output_code_outcome : OutputControlCodeRead → Outcome OutputControlCode
-output_code_outcome (CodeRead c) = gives c
-output_code_outcome (CodeRefused e) = refuses e
+read_output_code b = named output_byte Ok (Err (refusal UnknownOutputCode out_code 0 0)) output_codes b
 
 -- the code of the record at an index is known; the codes of all records are known, in order
 abbrev pub code_known : List ℕ → ℕ → Guard
@@ -42,12 +36,12 @@ code_known p index = guard_of (read_output_code (byte_at p (4 * index + 1)))
 unfoldable pub codes_known : List ℕ → Guard
 codes_known p = in_order (code_known p) 0 (length p / 4)
 
-abbrev pub out_of : List ℕ → OutputRecord
-out_of q = record { output = byte_at q 0; code = value_or Nop (read_output_code (byte_at q 1)); timer = u16_at q 2 }
+-- the record in the first bytes, with this code
+abbrev pub out_with : OutputControlCode → List ℕ → OutputRecord
+out_with c q = record { output = byte_at q 0; code = c; timer = u16_at q 2 }
 
-abbrev pub out_outcome : OutputRead → Outcome OutputRecord
-out_outcome (Read r) = gives r
-out_outcome (Refused e) = refuses e
+abbrev pub out_of : List ℕ → OutputRecord
+out_of q = out_with (value_or Nop (read_output_code (byte_at q 1))) q
 
 -- the record in the first bytes: row 4, then row 7
 abbrev pub read_out_at : List ℕ → Outcome OutputRecord

@@ -1,13 +1,13 @@
 -- In each turn, checking the codes that are left gives the answer for all.
-use Rattle.std.proofs.Common.{arith, sym, ◌∙◌}
-use Rattle.payload_util.proofs.Guards.{passed}
+use Rattle.std.proofs.Common.{arith, rules, sym, ◌∙◌}
+use Rattle.payload_util.proofs.Guards.{guard_gives, guard_refuses}
 use Rattle.payload_util.proofs.InOrder.{start, more, more_by, stop, done}
-use Rattle.output.specs.Output.{codes_known}
+use Rattle.output.specs.Output.{code_known, codes_known}
 use Rattle.output.proofs.OutputRecord.check_codes.Goals as goal
 
 pub loop-k-init : goal.loop-k-init
 unfolding codes_known
-loop-k-init c = record { left = start _ _ ∙ rw c.count-n.ensures; within = omega arith }
+loop-k-init c = record { left = start _ _; within = omega arith }
 
 pub loop-k-preserved-then-four_known : goal.loop-k-preserved-then-four_known
 loop-k-preserved-then-four_known c =
@@ -16,14 +16,15 @@ loop-k-preserved-then-four_known c =
       within = omega arith;
     }
 
-pub returns-in_default : goal.returns-in_default
-returns-in_default c =
-    c.in_default.is ∙ stop _ _ _ _ c.loop-k-test.true (sym c.check-known.ensures ∙ c.in_default.is) ∙ c.loop-k.invariant.left
+pub returns-in_err-from_byte : goal.returns-in_err-from_byte
+returns-in_err-from_byte c =
+    let e = stop (code_known c.args.p.now) _ _ _ c.loop-k-test.true (guard_refuses (sym c.from_byte.ensures ∙ c.in_err-from_byte.was)) ∙ c.loop-k.invariant.left in
+    search rules
 
 pub loop-k-preserved : goal.loop-k-preserved
 loop-k-preserved c =
     record {
-      left = more _ _ _ c.loop-k-test.true (passed c.check-known.ensures c.in-Pass.is) ∙ c.loop-k.invariant.left;
+      left = more (code_known c.args.p.now) _ _ c.loop-k-test.true (guard_gives (sym c.from_byte.ensures ∙ c.in_ok-from_byte.was)) ∙ c.loop-k.invariant.left;
       within = omega arith;
     }
 

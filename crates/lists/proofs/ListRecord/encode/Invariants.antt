@@ -1,0 +1,7 @@
+-- So far the first `l.k` records are written.
+use Rattle.std.proofs.Common.{◌≡◌}
+use Rattle.lists.proofs.State.{state}
+use Rattle.lists.proofs.ListRecord.encode.Given as goal
+
+abbrev pub invariant-loop-k : goal.invariant-loop-k
+invariant-loop-k g l = l.out ≡ state g.Self.ListRecord.bytes g.Self.ListRecord.WIRE_LEN l.records l.initial.out l.k
