@@ -1,23 +1,14 @@
 -- osdp_BIOREADR (0x57), R4.10, §7.14: reader, type, format, quality, length u16, sample. This is the layout of BIOMATCH.
 -- osdp_BIOMATCHR (0x58), R4.11, §7.15: reader, result, score.
 use Rattle.std.specs.Prelude.{[], ◌∷◌}
-use Rattle.payload_util.specs.Prelude.{byte_at, exact_len, nothing, Outcome, gives, refuses, Form, fixed}
-use Rattle.payload_util.specs.declared.Guard.TheVariants.{Pass}
+use Rattle.payload_util.specs.Prelude.{byte_at, exact_len, nothing, Form, fixed}
+use Rattle.payload_util.specs.Refusals.{Pass}
 use Rattle.biometric.specs.Biometric.{templated}
-use Rattle.bio.specs.declared.{BioReadR.BioReadR, BioReadRRead.BioReadRRead, BioMatchR.BioMatchR, BioMatchRRead.BioMatchRRead}
-use Rattle.bio.specs.declared.BioReadRRead.TheVariants.{Read, Refused}
-use Rattle.bio.specs.declared.BioMatchRRead.TheVariants.{Read as MatchRead, Refused as MatchRefused}
-
-abbrev pub bio_read_r_outcome : BioReadRRead → Outcome BioReadR
-bio_read_r_outcome (Read r) = gives r
-bio_read_r_outcome (Refused e) = refuses e
+use Rattle.bio.specs.declared.BioReadR.{BioReadR}
+use Rattle.bio.specs.declared.BioMatchR.{BioMatchR}
 
 abbrev pub bio_read_r : Form
 bio_read_r = templated {A = BioReadR} 0x57 (λ h. record { head = h }) (λ r. r.head)
-
-abbrev pub bio_match_r_outcome : BioMatchRRead → Outcome BioMatchR
-bio_match_r_outcome (MatchRead r) = gives r
-bio_match_r_outcome (MatchRefused e) = refuses e
 
 abbrev pub bio_match_r : Form
 bio_match_r = fixed {A = BioMatchR} (record {

@@ -1,46 +1,52 @@
 // osdp_BIOREADR (0x57), the biometric sample that was taken, and osdp_BIOMATCHR (0x58), the outcome of a match.
 #![tactic(auto)]
 
-ghost use Rattle.std.specs.Prelude.{◌≡◌, ◌≤◌, length};
-ghost use Rattle.payload_util.specs.Prelude.{check, fields, read, tail, write, normalise};
-ghost use Rattle.bio.specs.Bio.{bio_read_r_outcome, bio_match_r_outcome, bio_read_r, bio_match_r};
+ghost use Rattle.std.specs.Prelude.{◌≡◌};
+ghost use Rattle.payload_util.specs.Prelude.{fields, tail, write};
+ghost use Rattle.bio.specs.Bio.{bio_read_r, bio_match_r};
 
-use biometric::{BioHead, BioHeadRead};
+use biometric::BioHead;
 use payload_util::{
-    Guard, Refusal, Written, put_bytes, put_payload, require_exact_len, tail_where,
+    Payload, Record, Refusal, put_bytes, put_payload, require_exact_len, tail_where,
 };
 
 // osdp_BIOREADR: the sample's type, format and quality. The sample is the tail; the layout is that of BIOMATCH.
-#[derive(Clone, Copy)]
+#[derive(Clone, Copy, Debug, PartialEq, Eq)]
 pub struct BioReadR {
     pub head: BioHead,
 }
 
-#[derive(Clone, Copy)]
-pub enum BioReadRRead {
-    Read(BioReadR),
-    Refused(Refusal),
-}
+impl Payload for BioReadR {
+    const CODE: u8 = 0x57;
 
-impl BioReadR {
-    pub const CODE: u8 = 0x57;
+    ghost form = { bio_read_r };
 
-    pub const WIRE_LEN: usize = BioHead::TEMPLATE_AT;
-
-    pub fn check(p: &[u8]) -> Guard
-        ensures { result ≡ check bio_read_r p.now }
-    {
+    fn check(p: &[u8]) -> Result<(), Refusal> {
         BioHead::check_template(p, Self::CODE)
     }
 
-    pub fn decode(p: &[u8]) -> BioReadRRead
-        ensures { bio_read_r_outcome result ≡ read bio_read_r p.now }
-    {
-        match BioHead::decode_template(p, Self::CODE) {
-            BioHeadRead::Read(head) => BioReadRRead::Read(BioReadR { head }),
-            BioHeadRead::Refused(e) => BioReadRRead::Refused(e),
+    #[tactic(auto, using(biometric::proofs::Laws::template_pass))]
+    fn put_kept(p: &[u8], out: &mut [u8]) -> Result<usize, Refusal> {
+        BioHead::put_folded(p, Self::CODE, out)
+    }
+
+    #[tactic(auto, using(crate::proofs::Laws::bio_read_r_law))]
+    fn keeps_law() {}
+}
+
+impl Record for BioReadR {
+    ghost fields = { fields bio_read_r };
+
+    #[tactic(auto, using(biometric::proofs::Laws::template_pass))]
+    fn fields(p: &[u8]) -> BioReadR {
+        BioReadR {
+            head: BioHead::fields(p),
         }
     }
+}
+
+impl BioReadR {
+    pub const WIRE_LEN: usize = BioHead::TEMPLATE_AT;
 
     // The sample, a template or raw; empty if reading refuses.
     pub fn data(p: &[u8]) -> &[u8]
@@ -49,68 +55,55 @@ impl BioReadR {
         tail_where(Self::check(p), p, Self::WIRE_LEN)
     }
 
-    pub fn encode(self, sample: &[u8], out: &mut [u8]) -> Written
+    pub fn encode(self, sample: &[u8], out: &mut [u8]) -> Result<usize, Refusal>
         ensures { (result, out.new) ≡ write bio_read_r self sample.now out.old }
     {
-        let head = self.head;
-        head.encode_template(sample, Self::CODE, out)
-    }
-
-    pub fn normalise(p: &[u8], out: &mut [u8]) -> Written
-        ensures { (result, out.new) ≡ normalise bio_read_r p.now out.old }
-    {
-        BioHead::normalise_template(p, Self::CODE, out)
+        self.head.encode_template(sample, Self::CODE, out)
     }
 }
 
 // osdp_BIOMATCHR: result 0 is no match, 1 a match; any byte is accepted.
-#[derive(Clone, Copy)]
+#[derive(Clone, Copy, Debug, PartialEq, Eq)]
 pub struct BioMatchR {
     pub reader: u8,
     pub result: u8,
     pub score: u8,
 }
 
-#[derive(Clone, Copy)]
-pub enum BioMatchRRead {
-    Read(BioMatchR),
-    Refused(Refusal),
-}
+impl Payload for BioMatchR {
+    const CODE: u8 = 0x58;
 
-impl BioMatchR {
-    pub const CODE: u8 = 0x58;
+    ghost form = { bio_match_r };
 
-    pub const WIRE_LEN: usize = 3;
-
-    pub fn check(p: &[u8]) -> Guard
-        ensures { result ≡ check bio_match_r p.now }
-    {
+    fn check(p: &[u8]) -> Result<(), Refusal> {
         require_exact_len(p, Self::WIRE_LEN, Self::CODE)
     }
 
-    #[tactic(auto, using(payload_util::proofs::Guards::exact_pass))]
-    pub fn decode(p: &[u8]) -> BioMatchRRead
-        ensures { bio_match_r_outcome result ≡ read bio_match_r p.now }
-    {
-        let checked = Self::check(p);
-        let Guard::Pass = checked else {
-            return BioMatchRRead::Refused(checked.refusal());
-        };
-        BioMatchRRead::Read(Self::fields(p))
+    fn put_kept(p: &[u8], out: &mut [u8]) -> Result<usize, Refusal> {
+        put_payload(p, Self::CODE, out)
     }
 
-    fn fields(p: &[u8]) -> BioMatchR
-        requires { 3 ≤ length p.now }
-        ensures { result ≡ fields bio_match_r p.now }
-    {
+    #[tactic(auto, using(crate::proofs::Laws::bio_match_r_law))]
+    fn keeps_law() {}
+}
+
+impl Record for BioMatchR {
+    ghost fields = { fields bio_match_r };
+
+    #[tactic(auto, using(payload_util::proofs::Guards::exact_pass))]
+    fn fields(p: &[u8]) -> BioMatchR {
         BioMatchR {
             reader: p[0],
             result: p[1],
             score: p[2],
         }
     }
+}
 
-    pub fn encode(self, out: &mut [u8]) -> Written
+impl BioMatchR {
+    pub const WIRE_LEN: usize = 3;
+
+    pub fn encode(self, out: &mut [u8]) -> Result<usize, Refusal>
         ensures { (result, out.new) ≡ write bio_match_r self out.old }
     {
         put_bytes(
@@ -119,12 +112,5 @@ impl BioMatchR {
             Self::CODE,
             out,
         )
-    }
-
-    // Reading loses nothing: an accepted payload is written as it came.
-    pub fn normalise(p: &[u8], out: &mut [u8]) -> Written
-        ensures { (result, out.new) ≡ normalise bio_match_r p.now out.old }
-    {
-        put_payload(Self::check(p), p, Self::CODE, out)
     }
 }

@@ -9,28 +9,27 @@ use lib.ListN.{length, drop}
 use Rattle.payload_util.specs.Bytes.{Bytes, byte_at, u16_at, u16_bytes}
 use Rattle.payload_util.specs.Loss.{keep, without, within_limits}
 use Rattle.payload_util.specs.Guards.{exact_len, at_least, declared_len, at_most}
-use Rattle.payload_util.specs.Refusals.{◌also◌, in_order}
-use Rattle.payload_util.specs.declared.Guard.TheVariants.{Pass}
+use Rattle.payload_util.specs.declared.Row.{Row}
+use Rattle.payload_util.specs.Refusals.{◌also◌, in_order, Pass}
 use Rattle.payload_util.proofs.Guards.{exact_pass, head_and_tail_pass, pass_head_and_tail}
 use Rattle.payload_util.proofs.InOrder.{also_none}
 use Rattle.payload_util.proofs.Limits.{limit_at, by_limits}
 use Rattle.payload_util.proofs.Words.{fits_word, low_byte, high_byte}
 use Rattle.payload_util.proofs.Parts.{by_head, ended}
 use Rattle.payload_util.proofs.Losses.{length_keep}
-use Rattle.payload_util.proofs.Scheme.{Law}
+use Rattle.payload_util.specs.Law.{Law}
 use Rattle.payload_util.proofs.Forms.{fixed_law, tailed_law}
 use Rattle.biometric.specs.declared.BioHead.{BioHead}
-use Rattle.biometric.specs.Biometric.{highest_type, highest_format, head_of, head_bytes, bio_limits, bio_loss, check_template, templated}
-use Rattle.biometric.specs.Biometric.{bio_read, bio_match}
+use Rattle.biometric.specs.Biometric.{highest_type, highest_format, head_of, head_bytes, bio_limits, bio_loss, check_template, templated, bio_read, bio_match}
 use Rattle.biometric.proofs.Codes.{bio_type_back, bio_format_back, bio_type_kept, bio_format_kept}
 
--- ---- the head
+-- The head.
 
 -- it has two limits: type and format
-pub head_limits : (number code : ℕ) (p : List ℕ)
-    → within_limits number code bio_loss p ≡ (limit_at number code highest_type p 1 also limit_at number code highest_format p 2)
+pub head_limits : (row : Row) (code : ℕ) (p : List ℕ)
+    → within_limits row code bio_loss p ≡ (limit_at row code highest_type p 1 also limit_at row code highest_format p 2)
 unfolding in_order
-head_limits number code p = by_limits number code bio_loss p 3 (omega arith) ∙ simp also_none
+head_limits row code p = by_limits row code bio_loss p 3 (omega arith) ∙ simp also_none
 
 -- the head, written again in front of the rest of the payload, gives the payload without what is lost
 pub head_kept : (p : List ℕ) → Bytes p → 4 ≤ length p → head_bytes (head_of p) ++ drop 4 p ≡ without bio_loss p
@@ -49,7 +48,7 @@ bio_read_law =
     rw (ended 4 p e) at (head_kept p b (omega arith)))
     (λ p b g. refl) (λ r w. ap (λ (h : BioHead). record { head = h }) (head_back r.head [])) (λ p. simp length_keep) (λ r w. refl)
 
--- ---- a head with a template, under any code
+-- A head with a template, under any code.
 
 module _ (code : ℕ) (p : List ℕ) (g : check_template code p ≡ Pass) where
   pub template_pass : (6 ≤ length p) × (length (drop 6 p) ≡ u16_at p 4)

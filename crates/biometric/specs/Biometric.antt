@@ -1,15 +1,13 @@
 -- osdp_BIOREAD (0x73), R4.4, §6.14: reader, type, format, quality.
 -- osdp_BIOMATCH (0x74), R4.5, §6.15: the same four fields, length u16, template.
 use Rattle.std.specs.Prelude.{List, [], ◌∷◌, ◌++◌, ℕ, length, drop}
-use Rattle.payload_util.specs.Prelude.{byte_at, u16_at, u16_bytes, exact_len, head_and_tail, at_most}
-use Rattle.payload_util.specs.Prelude.{named, Keep, any, up_to, Loss, above, Outcome, gives, refuses, Form, fixed, tailed}
-use Rattle.payload_util.specs.declared.{Guard.Guard, Guard.TheVariants.Pass}
-use Rattle.biometric.specs.declared.{BioHead.BioHead, BioRead.BioRead, BioMatch.BioMatch}
-use Rattle.biometric.specs.declared.{BioHeadRead.BioHeadRead, BioReadRead.BioReadRead, BioMatchRead.BioMatchRead}
-use Rattle.biometric.specs.declared.BioHeadRead.TheVariants.{Read as HeadRead, Refused as HeadRefused}
-use Rattle.biometric.specs.declared.BioReadRead.TheVariants.{Read, Refused}
-use Rattle.biometric.specs.declared.BioMatchRead.TheVariants.{Read as MatchRead, Refused as MatchRefused}
-use Rattle.biometric.specs.declared.{BioType.BioType, BioFormat.BioFormat}
+use Rattle.payload_util.specs.Prelude.{byte_at, u16_at, u16_bytes, exact_len, head_and_tail, at_most, named, Keep, any, up_to, Loss, above, Form, fixed, tailed}
+use Rattle.payload_util.specs.Refusals.{Guard, Pass}
+use Rattle.biometric.specs.declared.BioHead.{BioHead}
+use Rattle.biometric.specs.declared.BioRead.{BioRead}
+use Rattle.biometric.specs.declared.BioMatch.{BioMatch}
+use Rattle.biometric.specs.declared.BioType.{BioType}
+use Rattle.biometric.specs.declared.BioFormat.{BioFormat}
 use Rattle.biometric.specs.declared.BioType.TheVariants.{NotSpecified, RightThumb, RightIndex, RightMiddle, RightRing, RightLittle, LeftThumb, LeftIndex, LeftMiddle, LeftRing, LeftLittle, RightIris, RightRetina, LeftIris, LeftRetina, Face, RightHandGeometry, LeftHandGeometry}
 use Rattle.biometric.specs.declared.BioFormat.TheVariants.{NotSpecified as NoFormat, FingerprintRawPgm, FingerprintAnsi378}
 
@@ -92,17 +90,9 @@ templated code wrap head = tailed (record {
   loss = bio_loss;
 })
 
-abbrev pub head_outcome : BioHeadRead → Outcome BioHead
-head_outcome (HeadRead h) = gives h
-head_outcome (HeadRefused e) = refuses e
-
 -- the head by itself
 abbrev pub headed : ℕ → Form
 headed code = templated code (λ h. h) (λ h. h)
-
-abbrev pub bio_read_outcome : BioReadRead → Outcome BioRead
-bio_read_outcome (Read r) = gives r
-bio_read_outcome (Refused e) = refuses e
 
 abbrev pub bio_read : Form
 bio_read = fixed {A = BioRead} (record {
@@ -113,10 +103,6 @@ bio_read = fixed {A = BioRead} (record {
   bytes = λ r. head_bytes r.head;
   loss = bio_loss;
 })
-
-abbrev pub bio_match_outcome : BioMatchRead → Outcome BioMatch
-bio_match_outcome (MatchRead m) = gives m
-bio_match_outcome (MatchRefused e) = refuses e
 
 abbrev pub bio_match : Form
 bio_match = templated {A = BioMatch} 0x74 (λ h. record { head = h }) (λ m. m.head)

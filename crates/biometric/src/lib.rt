@@ -2,40 +2,41 @@
 #![tactic(auto)]
 
 ghost use Rattle.std.specs.Prelude.{◌≡◌, ◌≤◌, length};
-ghost use Rattle.payload_util.specs.Prelude.{put_checked, without, within_limits, check, read, tail, write, normalise};
+ghost use Rattle.payload_util.specs.Prelude.{put, without, within_limits, fields, tail, write};
+ghost use Rattle.payload_util.specs.declared.Row.TheVariants.{Folded};
 ghost use Rattle.biometric.specs.Biometric.{bio_type_byte, bio_type_of, bio_format_byte, bio_format_of};
-ghost use Rattle.biometric.specs.Biometric.{head_outcome, bio_read_outcome, bio_match_outcome, head_of, head_bytes, bio_loss, check_template, headed, bio_read, bio_match};
+ghost use Rattle.biometric.specs.Biometric.{head_of, head_bytes, bio_loss, check_template, headed, bio_read, bio_match};
 
 use payload_util::{
-    FOLDED, Guard, Refusal, Written, fold_at, high_byte, low_byte, put_bytes, put_payload,
+    Payload, Record, Refusal, Row, fold_at, high_byte, low_byte, put_bytes, put_payload,
     require_at_most, require_exact_len, require_head_and_tail, require_limit, tail_where, u16_at,
 };
 
 // Biometric type code (Table 24).
-#[derive(Clone, Copy)]
+#[derive(Clone, Copy, Debug, PartialEq, Eq)]
 pub enum BioType {
-    NotSpecified,
-    RightThumb,
-    RightIndex,
-    RightMiddle,
-    RightRing,
-    RightLittle,
-    LeftThumb,
-    LeftIndex,
-    LeftMiddle,
-    LeftRing,
-    LeftLittle,
-    RightIris,
-    RightRetina,
-    LeftIris,
-    LeftRetina,
-    Face,
-    RightHandGeometry,
-    LeftHandGeometry,
+    NotSpecified = 0x00,
+    RightThumb = 0x01,
+    RightIndex = 0x02,
+    RightMiddle = 0x03,
+    RightRing = 0x04,
+    RightLittle = 0x05,
+    LeftThumb = 0x06,
+    LeftIndex = 0x07,
+    LeftMiddle = 0x08,
+    LeftRing = 0x09,
+    LeftLittle = 0x0A,
+    RightIris = 0x0B,
+    RightRetina = 0x0C,
+    LeftIris = 0x0D,
+    LeftRetina = 0x0E,
+    Face = 0x0F,
+    RightHandGeometry = 0x10,
+    LeftHandGeometry = 0x11,
 }
 
 impl BioType {
-    const HIGHEST: u8 = 0x11;
+    const HIGHEST: u8 = BioType::LeftHandGeometry as u8;
 
     // Any other byte becomes NotSpecified.
     #[tactic(auto, unfolding(crate::specs::Biometric::bio_type_of))]
@@ -68,39 +69,20 @@ impl BioType {
     pub fn as_byte(self) -> u8
         ensures { result ≡ bio_type_byte self }
     {
-        match self {
-            BioType::NotSpecified => 0x00,
-            BioType::RightThumb => 0x01,
-            BioType::RightIndex => 0x02,
-            BioType::RightMiddle => 0x03,
-            BioType::RightRing => 0x04,
-            BioType::RightLittle => 0x05,
-            BioType::LeftThumb => 0x06,
-            BioType::LeftIndex => 0x07,
-            BioType::LeftMiddle => 0x08,
-            BioType::LeftRing => 0x09,
-            BioType::LeftLittle => 0x0A,
-            BioType::RightIris => 0x0B,
-            BioType::RightRetina => 0x0C,
-            BioType::LeftIris => 0x0D,
-            BioType::LeftRetina => 0x0E,
-            BioType::Face => 0x0F,
-            BioType::RightHandGeometry => 0x10,
-            BioType::LeftHandGeometry => 0x11,
-        }
+        self as u8
     }
 }
 
 // Biometric data format (Table 25).
-#[derive(Clone, Copy)]
+#[derive(Clone, Copy, Debug, PartialEq, Eq)]
 pub enum BioFormat {
-    NotSpecified,
-    FingerprintRawPgm,
-    FingerprintAnsi378,
+    NotSpecified = 0x00,
+    FingerprintRawPgm = 0x01,
+    FingerprintAnsi378 = 0x02,
 }
 
 impl BioFormat {
-    const HIGHEST: u8 = 2;
+    const HIGHEST: u8 = BioFormat::FingerprintAnsi378 as u8;
 
     // Any other byte becomes NotSpecified.
     #[tactic(auto, unfolding(crate::specs::Biometric::bio_format_of))]
@@ -118,27 +100,17 @@ impl BioFormat {
     pub fn as_byte(self) -> u8
         ensures { result ≡ bio_format_byte self }
     {
-        match self {
-            BioFormat::NotSpecified => 0x00,
-            BioFormat::FingerprintRawPgm => 0x01,
-            BioFormat::FingerprintAnsi378 => 0x02,
-        }
+        self as u8
     }
 }
 
 // What BIOREAD, BIOMATCH and BIOREADR begin with.
-#[derive(Clone, Copy)]
+#[derive(Clone, Copy, Debug, PartialEq, Eq)]
 pub struct BioHead {
     pub reader: u8,
     pub bio_type: BioType,
     pub bio_format: BioFormat,
     pub quality: u8,
-}
-
-#[derive(Clone, Copy)]
-pub enum BioHeadRead {
-    Read(BioHead),
-    Refused(Refusal),
 }
 
 impl BioHead {
@@ -160,81 +132,67 @@ impl BioHead {
         }
     }
 
-    fn fields(p: &[u8]) -> BioHead
+    pub fn fields(p: &[u8]) -> BioHead
         requires { 4 ≤ length p.now }
         ensures { result ≡ head_of p.now }
     {
-        let bio_type = BioType::from_byte(p[1]);
-        let bio_format = BioFormat::from_byte(p[2]);
-        BioHead::new(p[0], bio_type, bio_format, p[3])
+        BioHead::new(
+            p[0],
+            BioType::from_byte(p[1]),
+            BioFormat::from_byte(p[2]),
+            p[3],
+        )
     }
 
     fn bytes(self) -> [u8; 4]
         ensures { result ≡ head_bytes self }
     {
-        let bio_type = self.bio_type;
-        let bio_format = self.bio_format;
         [
             self.reader,
-            bio_type.as_byte(),
-            bio_format.as_byte(),
+            self.bio_type.as_byte(),
+            self.bio_format.as_byte(),
             self.quality,
         ]
     }
 
-    // Normalises after the checks of a kind: writes the payload as it came, and then folds its type and format.
-    fn put_folded(checked: Guard, p: &[u8], code: u8, out: &mut [u8]) -> Written
-        requires { checked ≡ Guard.Pass → 4 ≤ length p.now }
-        ensures { (result, out.new) ≡ put_checked checked code (without bio_loss p.now) out.old }
+    // Writes a payload as it came, and then folds its type and format.
+    pub fn put_folded(p: &[u8], code: u8, out: &mut [u8]) -> Result<usize, Refusal>
+        requires { 4 ≤ length p.now }
+        ensures { (result, out.new) ≡ put code (without bio_loss p.now) out.old }
     {
-        let written = put_payload(checked, p, code, out);
-        let Written::Wrote(n) = written else {
-            return written;
-        };
+        let n = put_payload(p, code, out)?;
         fold_at(out, 1, BioType::HIGHEST);
         fold_at(out, 2, BioFormat::HIGHEST);
-        Written::Wrote(n)
+        Ok(n)
     }
 
     // Row 17 for the first of type and format that reading would fold.
     #[tactic(auto, using(crate::proofs::Laws::head_limits))]
-    pub fn within_limits(p: &[u8], code: u8) -> Guard
-        ensures { result ≡ within_limits 17 code bio_loss p.now }
+    pub fn within_limits(p: &[u8], code: u8) -> Result<(), Refusal>
+        ensures { result ≡ within_limits Folded code bio_loss p.now }
     {
-        let bio_type = require_limit(p, 1, BioType::HIGHEST, FOLDED, code);
-        let Guard::Pass = bio_type else {
-            return bio_type;
-        };
-        require_limit(p, 2, BioFormat::HIGHEST, FOLDED, code)
+        require_limit(p, 1, BioType::HIGHEST, Row::Folded, code)?;
+        require_limit(p, 2, BioFormat::HIGHEST, Row::Folded, code)
     }
 
-    // The calls for a head with a template are shared by BIOMATCH and BIOREADR: each gives its own code.
+    // What BIOMATCH and BIOREADR share, a head with a template: each gives its own code.
     #[tactic(auto, unfolding(crate::specs::Biometric::check_template))]
-    pub fn check_template(p: &[u8], code: u8) -> Guard
+    pub fn check_template(p: &[u8], code: u8) -> Result<(), Refusal>
         ensures { result ≡ check_template code p.now }
     {
         require_head_and_tail(p, Self::TEMPLATE_AT, u16_at(p, 4), code)
     }
 
-    #[tactic(auto, using(crate::proofs::Laws::template_pass))]
-    pub fn decode_template(p: &[u8], code: u8) -> BioHeadRead
-        ensures { head_outcome result ≡ read (headed code) p.now }
-    {
-        let checked = Self::check_template(p, code);
-        let Guard::Pass = checked else {
-            return BioHeadRead::Refused(checked.refusal());
-        };
-        BioHeadRead::Read(Self::fields(p))
-    }
-
     #[tactic(auto, using(payload_util::proofs::Guards::most_pass))]
-    pub fn encode_template(self, template: &[u8], code: u8, out: &mut [u8]) -> Written
+    pub fn encode_template(
+        self,
+        template: &[u8],
+        code: u8,
+        out: &mut [u8],
+    ) -> Result<usize, Refusal>
         ensures { (result, out.new) ≡ write (headed code) self template.now out.old }
     {
-        let short = require_at_most(template, Self::TEMPLATE_MAX, code);
-        let Guard::Pass = short else {
-            return Written::Refused(short.refusal());
-        };
+        require_at_most(template, Self::TEMPLATE_MAX, code)?;
         let len = template.len() as u16;
         let b = self.bytes();
         put_bytes(
@@ -244,97 +202,90 @@ impl BioHead {
             out,
         )
     }
-
-    #[tactic(auto, using(crate::proofs::Laws::template_pass))]
-    pub fn normalise_template(p: &[u8], code: u8, out: &mut [u8]) -> Written
-        ensures { (result, out.new) ≡ put_checked (check_template code p.now) code (without bio_loss p.now) out.old }
-    {
-        Self::put_folded(Self::check_template(p, code), p, code, out)
-    }
 }
 
 // osdp_BIOREAD: the sample to take, and the format to answer in.
-#[derive(Clone, Copy)]
+#[derive(Clone, Copy, Debug, PartialEq, Eq)]
 pub struct BioRead {
     pub head: BioHead,
 }
 
-#[derive(Clone, Copy)]
-pub enum BioReadRead {
-    Read(BioRead),
-    Refused(Refusal),
-}
+impl Payload for BioRead {
+    const CODE: u8 = 0x73;
 
-impl BioRead {
-    pub const CODE: u8 = 0x73;
+    ghost form = { bio_read };
 
-    pub const WIRE_LEN: usize = BioHead::WIRE_LEN;
-
-    pub fn check(p: &[u8]) -> Guard
-        ensures { result ≡ check bio_read p.now }
-    {
+    fn check(p: &[u8]) -> Result<(), Refusal> {
         require_exact_len(p, Self::WIRE_LEN, Self::CODE)
     }
 
     #[tactic(auto, using(payload_util::proofs::Guards::exact_pass))]
-    pub fn decode(p: &[u8]) -> BioReadRead
-        ensures { bio_read_outcome result ≡ read bio_read p.now }
-    {
-        let checked = Self::check(p);
-        let Guard::Pass = checked else {
-            return BioReadRead::Refused(checked.refusal());
-        };
-        BioReadRead::Read(BioRead {
-            head: BioHead::fields(p),
-        })
+    fn put_kept(p: &[u8], out: &mut [u8]) -> Result<usize, Refusal> {
+        BioHead::put_folded(p, Self::CODE, out)
     }
 
-    pub fn encode(self, out: &mut [u8]) -> Written
-        ensures { (result, out.new) ≡ write bio_read self out.old }
-    {
-        let head = self.head;
-        put_bytes(&head.bytes(), &[], Self::CODE, out)
-    }
+    #[tactic(auto, using(crate::proofs::Laws::bio_read_law))]
+    fn keeps_law() {}
+}
+
+impl Record for BioRead {
+    ghost fields = { fields bio_read };
 
     #[tactic(auto, using(payload_util::proofs::Guards::exact_pass))]
-    pub fn normalise(p: &[u8], out: &mut [u8]) -> Written
-        ensures { (result, out.new) ≡ normalise bio_read p.now out.old }
+    fn fields(p: &[u8]) -> BioRead {
+        BioRead {
+            head: BioHead::fields(p),
+        }
+    }
+}
+
+impl BioRead {
+    pub const WIRE_LEN: usize = BioHead::WIRE_LEN;
+
+    pub fn encode(self, out: &mut [u8]) -> Result<usize, Refusal>
+        ensures { (result, out.new) ≡ write bio_read self out.old }
     {
-        BioHead::put_folded(Self::check(p), p, Self::CODE, out)
+        put_bytes(&self.head.bytes(), &[], Self::CODE, out)
     }
 }
 
 // osdp_BIOMATCH: the sample to take, and the quality of a match. The template is the tail.
-#[derive(Clone, Copy)]
+#[derive(Clone, Copy, Debug, PartialEq, Eq)]
 pub struct BioMatch {
     pub head: BioHead,
 }
 
-#[derive(Clone, Copy)]
-pub enum BioMatchRead {
-    Read(BioMatch),
-    Refused(Refusal),
-}
+impl Payload for BioMatch {
+    const CODE: u8 = 0x74;
 
-impl BioMatch {
-    pub const CODE: u8 = 0x74;
+    ghost form = { bio_match };
 
-    pub const WIRE_LEN: usize = BioHead::TEMPLATE_AT;
-
-    pub fn check(p: &[u8]) -> Guard
-        ensures { result ≡ check bio_match p.now }
-    {
+    fn check(p: &[u8]) -> Result<(), Refusal> {
         BioHead::check_template(p, Self::CODE)
     }
 
-    pub fn decode(p: &[u8]) -> BioMatchRead
-        ensures { bio_match_outcome result ≡ read bio_match p.now }
-    {
-        match BioHead::decode_template(p, Self::CODE) {
-            BioHeadRead::Read(head) => BioMatchRead::Read(BioMatch { head }),
-            BioHeadRead::Refused(e) => BioMatchRead::Refused(e),
+    #[tactic(auto, using(crate::proofs::Laws::template_pass))]
+    fn put_kept(p: &[u8], out: &mut [u8]) -> Result<usize, Refusal> {
+        BioHead::put_folded(p, Self::CODE, out)
+    }
+
+    #[tactic(auto, using(crate::proofs::Laws::bio_match_law))]
+    fn keeps_law() {}
+}
+
+impl Record for BioMatch {
+    ghost fields = { fields bio_match };
+
+    #[tactic(auto, using(crate::proofs::Laws::template_pass))]
+    fn fields(p: &[u8]) -> BioMatch {
+        BioMatch {
+            head: BioHead::fields(p),
         }
     }
+}
+
+impl BioMatch {
+    pub const WIRE_LEN: usize = BioHead::TEMPLATE_AT;
 
     // The template; empty if reading refuses.
     pub fn template(p: &[u8]) -> &[u8]
@@ -343,16 +294,9 @@ impl BioMatch {
         tail_where(Self::check(p), p, Self::WIRE_LEN)
     }
 
-    pub fn encode(self, template: &[u8], out: &mut [u8]) -> Written
+    pub fn encode(self, template: &[u8], out: &mut [u8]) -> Result<usize, Refusal>
         ensures { (result, out.new) ≡ write bio_match self template.now out.old }
     {
-        let head = self.head;
-        head.encode_template(template, Self::CODE, out)
-    }
-
-    pub fn normalise(p: &[u8], out: &mut [u8]) -> Written
-        ensures { (result, out.new) ≡ normalise bio_match p.now out.old }
-    {
-        BioHead::normalise_template(p, Self::CODE, out)
+        self.head.encode_template(template, Self::CODE, out)
     }
 }
