@@ -1,12 +1,8 @@
 -- osdp_XRD (0xB1), R4.13, §7.26: the mode, and its reply.
 use Rattle.std.specs.Prelude.{◌∷◌, drop}
-use Rattle.payload_util.specs.Prelude.{byte_at, at_least, nothing, Outcome, gives, refuses, Form, tailed}
-use Rattle.payload_util.specs.declared.Guard.TheVariants.{Pass}
-use Rattle.xrd.specs.declared.{Xrd.Xrd, XrdRead.XrdRead, XrdRead.TheVariants.Read, XrdRead.TheVariants.Refused}
-
-abbrev pub xrd_outcome : XrdRead → Outcome Xrd
-xrd_outcome (Read x) = gives x
-xrd_outcome (Refused e) = refuses e
+use Rattle.payload_util.specs.Prelude.{byte_at, at_least, nothing, Form, tailed}
+use Rattle.xrd.specs.declared.Xrd.{Xrd}
+use Rattle.payload_util.specs.Refusals.{Pass}
 
 abbrev pub xrd : Form
 xrd = tailed {A = Xrd} (record {
