@@ -3,7 +3,7 @@
 use mathlib.Core.Path.{refl}
 use native.Mathlib.Omega.{arith}
 use Rattle.payload_util.proofs.Parts.{by_head}
-use Rattle.payload_util.proofs.Scheme.{Law}
+use Rattle.payload_util.specs.Law.{Law}
 use Rattle.payload_util.proofs.Forms.{counted_law}
 use Rattle.keypad.specs.Keypad.{keypad}
 

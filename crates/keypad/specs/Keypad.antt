@@ -1,11 +1,7 @@
 -- osdp_KEYPAD (0x53), R101.1, §7.12: reader, count, and that many digits.
 use Rattle.std.specs.Prelude.{◌∷◌, drop}
-use Rattle.payload_util.specs.Prelude.{byte_at, head_and_tail, tail_len, nothing, Outcome, gives, refuses, Form, tailed}
-use Rattle.keypad.specs.declared.{Keypad.Keypad, KeypadRead.KeypadRead, KeypadRead.TheVariants.Read, KeypadRead.TheVariants.Refused}
-
-abbrev pub keypad_outcome : KeypadRead → Outcome Keypad
-keypad_outcome (Read k) = gives k
-keypad_outcome (Refused e) = refuses e
+use Rattle.payload_util.specs.Prelude.{byte_at, head_and_tail, tail_len, nothing, Form, tailed}
+use Rattle.keypad.specs.declared.Keypad.{Keypad}
 
 -- a payload is refused by rows 4 and 6, a record by row 13
 abbrev pub keypad : Form

@@ -1,60 +1,55 @@
 // osdp_KEYPAD (0x53): digits that were typed at a reader.
 #![tactic(auto)]
 
-ghost use Rattle.std.specs.Prelude.{◌≡◌, ◌≤◌, length};
-ghost use Rattle.payload_util.specs.Prelude.{check, fields, read, tail, write, normalise};
-ghost use Rattle.keypad.specs.Keypad.{keypad_outcome, keypad};
+ghost use Rattle.std.specs.Prelude.{◌≡◌};
+ghost use Rattle.payload_util.specs.Prelude.{fields, tail, write};
+ghost use Rattle.keypad.specs.Keypad.{keypad};
 
 use payload_util::{
-    Guard, Refusal, Written, byte_at, put_checked, put_payload, require_head_and_tail,
+    Payload, Record, Refusal, byte_at, put_bytes, put_payload, require_head_and_tail,
     require_tail_len, tail_where,
 };
 
 // The fixed fields; the digits are the tail.
-#[derive(Clone, Copy)]
+#[derive(Clone, Copy, Debug, PartialEq, Eq)]
 pub struct Keypad {
     pub reader: u8,
     pub digit_count: u8,
 }
 
-#[derive(Clone, Copy)]
-pub enum KeypadRead {
-    Read(Keypad),
-    Refused(Refusal),
-}
+impl Payload for Keypad {
+    const CODE: u8 = 0x53;
 
-impl Keypad {
-    pub const CODE: u8 = 0x53;
+    ghost form = { keypad };
 
-    pub const WIRE_LEN: usize = 2;
-
-    pub fn check(p: &[u8]) -> Guard
-        ensures { result ≡ check keypad p.now }
-    {
+    fn check(p: &[u8]) -> Result<(), Refusal> {
         let tail = byte_at(p, 1) as u16;
         require_head_and_tail(p, Self::WIRE_LEN, tail, Self::CODE)
     }
 
-    #[tactic(auto, using(payload_util::proofs::Guards::head_and_tail_pass))]
-    pub fn decode(p: &[u8]) -> KeypadRead
-        ensures { keypad_outcome result ≡ read keypad p.now }
-    {
-        let checked = Self::check(p);
-        let Guard::Pass = checked else {
-            return KeypadRead::Refused(checked.refusal());
-        };
-        KeypadRead::Read(Self::fields(p))
+    // Reading loses nothing.
+    fn put_kept(p: &[u8], out: &mut [u8]) -> Result<usize, Refusal> {
+        put_payload(p, Self::CODE, out)
     }
 
-    fn fields(p: &[u8]) -> Keypad
-        requires { 2 ≤ length p.now }
-        ensures { result ≡ fields keypad p.now }
-    {
+    #[tactic(auto, using(crate::proofs::Laws::keypad_law))]
+    fn keeps_law() {}
+}
+
+impl Record for Keypad {
+    ghost fields = { fields keypad };
+
+    #[tactic(auto, using(payload_util::proofs::Guards::head_and_tail_pass))]
+    fn fields(p: &[u8]) -> Keypad {
         Keypad {
             reader: p[0],
             digit_count: p[1],
         }
     }
+}
+
+impl Keypad {
+    pub const WIRE_LEN: usize = 2;
 
     // The digits, ASCII, 0x7F for clear and 0x0D for enter; any byte is accepted. Empty if reading refuses.
     pub fn digits(p: &[u8]) -> &[u8]
@@ -63,22 +58,10 @@ impl Keypad {
         tail_where(Self::check(p), p, Self::WIRE_LEN)
     }
 
-    pub fn encode(self, digits: &[u8], out: &mut [u8]) -> Written
+    pub fn encode(self, digits: &[u8], out: &mut [u8]) -> Result<usize, Refusal>
         ensures { (result, out.new) ≡ write keypad self digits.now out.old }
     {
-        put_checked(
-            require_tail_len(digits, self.digit_count as usize, Self::CODE),
-            &[self.reader, self.digit_count],
-            digits,
-            Self::CODE,
-            out,
-        )
-    }
-
-    // Reading loses nothing: an accepted payload is written as it came.
-    pub fn normalise(p: &[u8], out: &mut [u8]) -> Written
-        ensures { (result, out.new) ≡ normalise keypad p.now out.old }
-    {
-        put_payload(Self::check(p), p, Self::CODE, out)
+        require_tail_len(digits, self.digit_count as usize, Self::CODE)?;
+        put_bytes(&[self.reader, self.digit_count], digits, Self::CODE, out)
     }
 }
