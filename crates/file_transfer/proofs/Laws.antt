@@ -7,7 +7,7 @@ use lib.ListN.{length}
 use Rattle.payload_util.proofs.Words.{fits_word, low_byte, high_byte, low_word, high_word}
 use Rattle.payload_util.proofs.Guards.{head_and_tail_pass, pass_head_and_tail}
 use Rattle.payload_util.proofs.Parts.{by_head}
-use Rattle.payload_util.proofs.Scheme.{Law}
+use Rattle.payload_util.specs.Law.{Law}
 use Rattle.payload_util.proofs.Forms.{tailed_law}
 use Rattle.file_transfer.specs.FileTransfer.{file_transfer}
 

@@ -1,14 +1,8 @@
 -- osdp_FILETRANSFER (0x7C), R4.6, §6.21: type, total size u32, offset u32, fragment length u16, fragment. The total and the offset are not compared
 -- with the fragment.
 use Rattle.std.specs.Prelude.{◌∷◌, ◌++◌, length, drop}
-use Rattle.payload_util.specs.Prelude.{byte_at, u16_at, u32_at, u16_bytes, u32_bytes, head_and_tail, at_most, nothing}
-use Rattle.payload_util.specs.Prelude.{Outcome, gives, refuses, Form, tailed}
-use Rattle.file_transfer.specs.declared.{FileTransfer.FileTransfer, FileTransferRead.FileTransferRead}
-use Rattle.file_transfer.specs.declared.FileTransferRead.TheVariants.{Read, Refused}
-
-abbrev pub file_transfer_outcome : FileTransferRead → Outcome FileTransfer
-file_transfer_outcome (Read f) = gives f
-file_transfer_outcome (Refused e) = refuses e
+use Rattle.payload_util.specs.Prelude.{byte_at, u16_at, u32_at, u16_bytes, u32_bytes, head_and_tail, at_most, nothing, Form, tailed}
+use Rattle.file_transfer.specs.declared.FileTransfer.{FileTransfer}
 
 -- a payload is refused by rows 4 and 6, a record by row 12, since the length field has two bytes
 abbrev pub file_transfer : Form

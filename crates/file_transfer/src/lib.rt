@@ -1,61 +1,56 @@
 // osdp_FILETRANSFER (0x7C): a file for the PD, a fragment at a time.
 #![tactic(auto)]
 
-ghost use Rattle.std.specs.Prelude.{◌≡◌, ◌≤◌, length};
-ghost use Rattle.payload_util.specs.Prelude.{check, fields, read, tail, write, normalise};
-ghost use Rattle.file_transfer.specs.FileTransfer.{file_transfer_outcome, file_transfer};
+ghost use Rattle.std.specs.Prelude.{◌≡◌};
+ghost use Rattle.payload_util.specs.Prelude.{fields, tail, write};
+ghost use Rattle.file_transfer.specs.FileTransfer.{file_transfer};
 
 use payload_util::{
-    Guard, Refusal, Written, high_byte, low_byte, put_bytes, put_payload, require_at_most,
+    Payload, Record, Refusal, high_byte, low_byte, put_bytes, put_payload, require_at_most,
     require_head_and_tail, tail_where, u16_at, u32_at, u32_bytes,
 };
 
 // The fixed fields; the fragment is the tail, and its length is not a field.
-#[derive(Clone, Copy)]
+#[derive(Clone, Copy, Debug, PartialEq, Eq)]
 pub struct FileTransfer {
     pub file_type: u8,
     pub total_size: u32,
     pub offset: u32,
 }
 
-#[derive(Clone, Copy)]
-pub enum FileTransferRead {
-    Read(FileTransfer),
-    Refused(Refusal),
-}
+impl Payload for FileTransfer {
+    const CODE: u8 = 0x7C;
 
-impl FileTransfer {
-    pub const CODE: u8 = 0x7C;
+    ghost form = { file_transfer };
 
-    pub const WIRE_LEN: usize = 11;
-
-    pub fn check(p: &[u8]) -> Guard
-        ensures { result ≡ check file_transfer p.now }
-    {
+    fn check(p: &[u8]) -> Result<(), Refusal> {
         require_head_and_tail(p, Self::WIRE_LEN, u16_at(p, 9), Self::CODE)
     }
 
-    #[tactic(auto, using(payload_util::proofs::Guards::head_and_tail_pass))]
-    pub fn decode(p: &[u8]) -> FileTransferRead
-        ensures { file_transfer_outcome result ≡ read file_transfer p.now }
-    {
-        let checked = Self::check(p);
-        let Guard::Pass = checked else {
-            return FileTransferRead::Refused(checked.refusal());
-        };
-        FileTransferRead::Read(Self::fields(p))
+    // Reading loses nothing.
+    fn put_kept(p: &[u8], out: &mut [u8]) -> Result<usize, Refusal> {
+        put_payload(p, Self::CODE, out)
     }
 
-    fn fields(p: &[u8]) -> FileTransfer
-        requires { 11 ≤ length p.now }
-        ensures { result ≡ fields file_transfer p.now }
-    {
+    #[tactic(auto, using(crate::proofs::Laws::file_transfer_law))]
+    fn keeps_law() {}
+}
+
+impl Record for FileTransfer {
+    ghost fields = { fields file_transfer };
+
+    #[tactic(auto, using(payload_util::proofs::Guards::head_and_tail_pass))]
+    fn fields(p: &[u8]) -> FileTransfer {
         FileTransfer {
             file_type: p[0],
             total_size: u32_at(p, 1),
             offset: u32_at(p, 5),
         }
     }
+}
+
+impl FileTransfer {
+    pub const WIRE_LEN: usize = 11;
 
     // The fragment; empty if reading refuses.
     pub fn fragment(p: &[u8]) -> &[u8]
@@ -65,13 +60,10 @@ impl FileTransfer {
     }
 
     #[tactic(auto, using(payload_util::proofs::Guards::most_pass))]
-    pub fn encode(self, fragment: &[u8], out: &mut [u8]) -> Written
+    pub fn encode(self, fragment: &[u8], out: &mut [u8]) -> Result<usize, Refusal>
         ensures { (result, out.new) ≡ write file_transfer self fragment.now out.old }
     {
-        let short = require_at_most(fragment, 65535, Self::CODE);
-        let Guard::Pass = short else {
-            return Written::Refused(short.refusal());
-        };
+        require_at_most(fragment, 65535, Self::CODE)?;
         let total = u32_bytes(self.total_size);
         let offset = u32_bytes(self.offset);
         let len = fragment.len() as u16;
@@ -89,12 +81,5 @@ impl FileTransfer {
             high_byte(len),
         ];
         put_bytes(&head, fragment, Self::CODE, out)
-    }
-
-    // Reading loses nothing: an accepted payload is written as it came.
-    pub fn normalise(p: &[u8], out: &mut [u8]) -> Written
-        ensures { (result, out.new) ≡ normalise file_transfer p.now out.old }
-    {
-        put_payload(Self::check(p), p, Self::CODE, out)
     }
 }
