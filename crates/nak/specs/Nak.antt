@@ -1,12 +1,11 @@
 -- osdp_NAK (0x41), R4.12, §7.3: the error of Table 47, and completion codes. They are read with one error only, and written with every error.
-use Rattle.std.specs.Prelude.{List, [], ◌∷◌, ℕ, cond, eqb, drop}
-use Rattle.payload_util.specs.Prelude.{byte_at, row, ◌also◌, at_least, named}
-use Rattle.payload_util.specs.Prelude.{Outcome, gives, refuses, guard_of, value_or, rest_unless, Form, tailed}
-use Rattle.payload_util.specs.declared.Guard.TheVariants.{Pass}
+use Rattle.std.specs.Prelude.{List, [], ◌∷◌, ℕ, cond, eqb, drop, Ok, Err}
+use Rattle.payload_util.specs.Prelude.{byte_at, ◌also◌, at_least, named, Outcome, guard_of, value_or, rest_unless, Form, tailed}
 use Rattle.nak.specs.declared.NakErrorCode.TheVariants.{NoError, BadCrcOrChecksum, CommandLengthError, UnknownCommandCode, UnexpectedSequenceNumber, SecurityBlockTypeNotSupported, EncryptedCommunicationRequired, BioTypeNotSupported, BioFormatNotSupported, UnableToProcessCommandRecord}
-use Rattle.nak.specs.declared.NakErrorCodeRead.TheVariants.{Read as ReadError, Refused as RefusedError}
-use Rattle.nak.specs.declared.NakRead.TheVariants.{Read, Refused}
-use Rattle.nak.specs.declared.{NakErrorCode.NakErrorCode, NakErrorCodeRead.NakErrorCodeRead, Nak.Nak, NakRead.NakRead}
+use Rattle.nak.specs.declared.NakErrorCode.{NakErrorCode}
+use Rattle.nak.specs.declared.Nak.{Nak}
+use Rattle.payload_util.specs.Refusals.{Pass, refusal}
+use Rattle.payload_util.specs.declared.Row.TheVariants.{UnknownNakError}
 
 abbrev pub nak_code : ℕ
 nak_code = 0x41
@@ -32,11 +31,7 @@ nak_errors =
 
 -- row 10 for any other byte
 unfoldable pub read_nak_error : ℕ → Outcome NakErrorCode
-read_nak_error b = named nak_error_byte gives (refuses (row 10 nak_code 0 0)) nak_errors b
-
-abbrev pub nak_error_outcome : NakErrorCodeRead → Outcome NakErrorCode
-nak_error_outcome (ReadError c) = gives c
-nak_error_outcome (RefusedError e) = refuses e
+read_nak_error b = named nak_error_byte Ok (Err (refusal UnknownNakError nak_code 0 0)) nak_errors b
 
 -- the error byte with which completion codes are read
 abbrev pub completion_error : ℕ
@@ -44,10 +39,6 @@ completion_error = nak_error_byte UnableToProcessCommandRecord
 
 abbrev pub completion_codes : List ℕ → List ℕ
 completion_codes p = cond (eqb (byte_at p 0) completion_error) (drop 1 p) []
-
-abbrev pub nak_outcome : NakRead → Outcome Nak
-nak_outcome (Read n) = gives n
-nak_outcome (Refused e) = refuses e
 
 abbrev pub nak : Form
 nak = tailed {A = Nak} (record {

@@ -2,90 +2,95 @@
 #![tactic(auto)]
 
 ghost use Rattle.std.specs.Prelude.{◌≡◌};
-ghost use Rattle.payload_util.specs.Prelude.{without, loss, check, read, tail, write, normalise};
-ghost use Rattle.nak.specs.Nak.{nak_outcome, nak_error_byte, nak_error_outcome, read_nak_error, nak};
+ghost use Rattle.payload_util.specs.Prelude.{without, loss, fields, tail, write};
+ghost use Rattle.nak.specs.Nak.{nak_error_byte, read_nak_error, nak};
 
-use payload_util::{Guard, Refusal, Written, put_bytes, put_payload, require_at_least, tail_where};
+use payload_util::{
+    Payload, Record, Refusal, Row, put_bytes, put_payload, require_at_least, tail_where,
+};
 
 // NAK error code (Table 47).
-#[derive(Clone, Copy)]
+#[derive(Clone, Copy, Debug, PartialEq, Eq)]
 pub enum NakErrorCode {
-    NoError,
-    BadCrcOrChecksum,
-    CommandLengthError,
-    UnknownCommandCode,
-    UnexpectedSequenceNumber,
-    SecurityBlockTypeNotSupported,
-    EncryptedCommunicationRequired,
-    BioTypeNotSupported,
-    BioFormatNotSupported,
-    UnableToProcessCommandRecord,
-}
-
-#[derive(Clone, Copy)]
-pub enum NakErrorCodeRead {
-    Read(NakErrorCode),
-    Refused(Refusal),
+    NoError = 0x00,
+    BadCrcOrChecksum = 0x01,
+    CommandLengthError = 0x02,
+    UnknownCommandCode = 0x03,
+    UnexpectedSequenceNumber = 0x04,
+    SecurityBlockTypeNotSupported = 0x05,
+    EncryptedCommunicationRequired = 0x06,
+    BioTypeNotSupported = 0x07,
+    BioFormatNotSupported = 0x08,
+    UnableToProcessCommandRecord = 0x09,
 }
 
 impl NakErrorCode {
+    // Row 10 if no error has this byte.
     #[tactic(auto, unfolding(crate::specs::Nak::read_nak_error))]
-    pub fn from_byte(b: u8) -> NakErrorCodeRead
-        ensures { nak_error_outcome result ≡ read_nak_error b }
+    pub fn from_byte(b: u8) -> Result<Self, Refusal>
+        ensures { result ≡ read_nak_error b }
     {
         match b {
-            0x00 => NakErrorCodeRead::Read(NakErrorCode::NoError),
-            0x01 => NakErrorCodeRead::Read(NakErrorCode::BadCrcOrChecksum),
-            0x02 => NakErrorCodeRead::Read(NakErrorCode::CommandLengthError),
-            0x03 => NakErrorCodeRead::Read(NakErrorCode::UnknownCommandCode),
-            0x04 => NakErrorCodeRead::Read(NakErrorCode::UnexpectedSequenceNumber),
-            0x05 => NakErrorCodeRead::Read(NakErrorCode::SecurityBlockTypeNotSupported),
-            0x06 => NakErrorCodeRead::Read(NakErrorCode::EncryptedCommunicationRequired),
-            0x07 => NakErrorCodeRead::Read(NakErrorCode::BioTypeNotSupported),
-            0x08 => NakErrorCodeRead::Read(NakErrorCode::BioFormatNotSupported),
-            0x09 => NakErrorCodeRead::Read(NakErrorCode::UnableToProcessCommandRecord),
-            _ => NakErrorCodeRead::Refused(Refusal {
-                number: 10,
-                code: Nak::CODE,
-                first: 0,
-                second: 0,
-            }),
+            0x00 => Ok(NakErrorCode::NoError),
+            0x01 => Ok(NakErrorCode::BadCrcOrChecksum),
+            0x02 => Ok(NakErrorCode::CommandLengthError),
+            0x03 => Ok(NakErrorCode::UnknownCommandCode),
+            0x04 => Ok(NakErrorCode::UnexpectedSequenceNumber),
+            0x05 => Ok(NakErrorCode::SecurityBlockTypeNotSupported),
+            0x06 => Ok(NakErrorCode::EncryptedCommunicationRequired),
+            0x07 => Ok(NakErrorCode::BioTypeNotSupported),
+            0x08 => Ok(NakErrorCode::BioFormatNotSupported),
+            0x09 => Ok(NakErrorCode::UnableToProcessCommandRecord),
+            _ => Err(Refusal::new(Row::UnknownNakError, Nak::CODE)),
         }
     }
 
     pub fn as_byte(self) -> u8
         ensures { result ≡ nak_error_byte self }
     {
-        match self {
-            NakErrorCode::NoError => 0x00,
-            NakErrorCode::BadCrcOrChecksum => 0x01,
-            NakErrorCode::CommandLengthError => 0x02,
-            NakErrorCode::UnknownCommandCode => 0x03,
-            NakErrorCode::UnexpectedSequenceNumber => 0x04,
-            NakErrorCode::SecurityBlockTypeNotSupported => 0x05,
-            NakErrorCode::EncryptedCommunicationRequired => 0x06,
-            NakErrorCode::BioTypeNotSupported => 0x07,
-            NakErrorCode::BioFormatNotSupported => 0x08,
-            NakErrorCode::UnableToProcessCommandRecord => 0x09,
-        }
+        self as u8
     }
 }
 
 // The fixed field: the error. Completion codes, one for each record of the command, are the tail.
-#[derive(Clone, Copy)]
+#[derive(Clone, Copy, Debug, PartialEq, Eq)]
 pub struct Nak {
     pub error: NakErrorCode,
 }
 
-#[derive(Clone, Copy)]
-pub enum NakRead {
-    Read(Nak),
-    Refused(Refusal),
+impl Payload for Nak {
+    const CODE: u8 = 0x41;
+
+    ghost form = { nak };
+
+    #[tactic(auto, using(payload_util::proofs::Guards::least_pass))]
+    fn check(p: &[u8]) -> Result<(), Refusal> {
+        require_at_least(p, Self::WIRE_LEN, Self::CODE)?;
+        NakErrorCode::from_byte(p[0])?;
+        Ok(())
+    }
+
+    fn put_kept(p: &[u8], out: &mut [u8]) -> Result<usize, Refusal> {
+        put_payload(Self::kept(p), Self::CODE, out)
+    }
+
+    #[tactic(auto, using(crate::proofs::Laws::nak_law))]
+    fn keeps_law() {}
+}
+
+impl Record for Nak {
+    ghost fields = { fields nak };
+
+    #[tactic(auto, using(crate::proofs::Laws::nak_least, crate::proofs::Laws::nak_known))]
+    fn fields(p: &[u8]) -> Nak {
+        let Ok(error) = NakErrorCode::from_byte(p[0]) else {
+            unreachable!();
+        };
+        Nak { error }
+    }
 }
 
 impl Nak {
-    pub const CODE: u8 = 0x41;
-
     pub const WIRE_LEN: usize = 1;
 
     // A NAK to be written without completion codes.
@@ -95,37 +100,11 @@ impl Nak {
         Nak { error: err }
     }
 
-    #[tactic(auto, using(payload_util::proofs::Guards::least_pass))]
-    pub fn decode(p: &[u8]) -> NakRead
-        ensures { nak_outcome result ≡ read nak p.now }
-    {
-        let fixed = require_at_least(p, Self::WIRE_LEN, Self::CODE);
-        let Guard::Pass = fixed else {
-            return NakRead::Refused(fixed.refusal());
-        };
-        match NakErrorCode::from_byte(p[0]) {
-            NakErrorCodeRead::Read(error) => NakRead::Read(Nak { error }),
-            NakErrorCodeRead::Refused(e) => NakRead::Refused(e),
-        }
-    }
-
-    pub fn check(p: &[u8]) -> Guard
-        ensures { result ≡ check nak p.now }
-    {
-        match Self::decode(p) {
-            NakRead::Read(_) => Guard::Pass,
-            NakRead::Refused(e) => Guard::Refused(e),
-        }
-    }
-
     // What reading keeps of an accepted payload: all of it if the error is the one with completion codes, else the error alone.
     fn kept(p: &[u8]) -> &[u8]
         ensures { result.now ≡ without (loss nak) p.now }
     {
-        if p.len() == 0 {
-            return p;
-        }
-        if p[0] == NakErrorCode::UnableToProcessCommandRecord.as_byte() {
+        if p.is_empty() || p[0] == NakErrorCode::UnableToProcessCommandRecord.as_byte() {
             return p;
         }
         &p[0..1]
@@ -139,16 +118,9 @@ impl Nak {
     }
 
     // Completion codes are written with every error.
-    pub fn encode(self, completion_codes: &[u8], out: &mut [u8]) -> Written
+    pub fn encode(self, completion_codes: &[u8], out: &mut [u8]) -> Result<usize, Refusal>
         ensures { (result, out.new) ≡ write nak self completion_codes.now out.old }
     {
-        let error = self.error;
-        put_bytes(&[error.as_byte()], completion_codes, Self::CODE, out)
-    }
-
-    pub fn normalise(p: &[u8], out: &mut [u8]) -> Written
-        ensures { (result, out.new) ≡ normalise nak p.now out.old }
-    {
-        put_payload(Self::check(p), Self::kept(p), Self::CODE, out)
+        put_bytes(&[self.error.as_byte()], completion_codes, Self::CODE, out)
     }
 }
