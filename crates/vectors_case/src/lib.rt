@@ -1,16 +1,17 @@
 // A case with its wanted answer, and what every comparison shares: buffers that are filled up, and the fields of records made by hand.
 #![tactic(auto)]
 
-ghost use Rattle.std.specs.Prelude.{◌≡◌, true, ◌↔◌, ◌<◌, length};
+ghost use Rattle.std.specs.Prelude.{◌≡◌, true, ◌↔◌, ◌≤◌, ◌<◌, length, replicate, Some};
 ghost use Rattle.payload_util.specs.Bytes.{byte_at, u16_at, u32_at, u16_bytes, u32_bytes};
-ghost use Rattle.payload_util.specs.Refusals.{row};
+ghost use Rattle.payload_util.specs.Refusals.{number_of, Guard};
+ghost use Rattle.payload_util.specs.Outcome.{outcome};
 ghost use Rattle.payload_util.specs.Guards.{room};
 ghost use Rattle.payload_util.specs.Writing.{room_last};
-ghost use Rattle.payload_util.specs.declared.Guard.TheVariants.{Refused};
-ghost use Rattle.vectors_case.specs.Case.{wanted, wanted_effect, Tried};
+ghost use Rattle.payload_util.specs.declared.Row.{Row};
+ghost use Rattle.vectors_case.specs.Case.{IsWanted, wanted_effect, Tried};
 ghost use Rattle.vectors_case.specs.Buffer.{AllFrom, around, putting};
 
-use payload_util::{Guard, Refusal, Written};
+use payload_util::{Refusal, Row};
 
 // The code bytes of the kinds and the bytes of a list's record, by docs/REQUIREMENTS.md. The library's own are not used, since they are
 // what is tested.
@@ -58,20 +59,13 @@ pub const LED_BYTES: usize = 14;
 
 pub const OUT_BYTES: usize = 4;
 
-#[derive(Clone, Copy)]
+#[derive(Clone, Copy, Debug, PartialEq, Eq)]
 pub struct Case {
     pub class: u8,
     pub code: u8,
     pub argument: usize,
-    // the wanted answer: the row of the refusal and its two values, or row 0 for a pass
-    pub row: u8,
-    pub first: usize,
-    pub second: usize,
-    // where the output begins and ends; the input ends where the output begins
-    pub mid: usize,
-    pub end: usize,
-    // how long it is in the stream
-    pub size: usize,
+    // the wanted answer: a pass, or a refusal
+    pub wanted: Result<(), Refusal>,
     // how it is tried: the room that a writer is given, and the byte that fills the whole buffer before
     pub room: usize,
     pub fill: u8,
@@ -80,143 +74,144 @@ pub struct Case {
 impl Case {
     // Whether e is the wanted refusal.
     pub fn refuses(self, e: Refusal) -> bool
-        ensures { (result ≡ true) ↔ (Refused e ≡ wanted self) }
+        ensures { (result ≡ true) ↔ (Err e ≡ self.wanted) }
     {
-        if self.row == 0 {
-            return false;
-        }
-        is_row(e, self.row, self.code, self.first, self.second)
+        self.guards(Err(e))
     }
 
     // Whether g is the wanted answer.
-    pub fn guards(self, g: Guard) -> bool
-        ensures { (result ≡ true) ↔ (g ≡ wanted self) }
+    pub fn guards(self, g: Result<(), Refusal>) -> bool
+        ensures { (result ≡ true) ↔ (g ≡ self.wanted) }
     {
-        match g {
-            Guard::Pass => self.row == 0,
-            Guard::Refused(e) => self.refuses(e),
-        }
+        g == self.wanted
     }
 }
 
-// Whether e is this row.
-fn is_row(e: Refusal, number: u8, code: u8, first: usize, second: usize) -> bool
-    ensures { (result ≡ true) ↔ (e ≡ row number code first second) }
+// The row with a number of the stream. By hand, since the library's numbers are what is tested.
+fn row_of(number: u8) -> Option<Row>
+    ensures { (r : Row) → (result ≡ Some r) ↔ (number_of r ≡ number) }
 {
-    if e.number != number {
-        return false;
+    match number {
+        1 => Some(Row::UnknownCommand),
+        2 => Some(Row::UnknownReply),
+        3 => Some(Row::PayloadLength),
+        4 => Some(Row::PayloadTooShort),
+        5 => Some(Row::PayloadNotMultiple),
+        6 => Some(Row::DeclaredLength),
+        7 => Some(Row::UnknownOutputCode),
+        8 => Some(Row::UnprintableText),
+        9 => Some(Row::UnknownTextCommand),
+        10 => Some(Row::UnknownNakError),
+        11 => Some(Row::EmptyList),
+        12 => Some(Row::TailTooLong),
+        13 => Some(Row::TailLength),
+        14 => Some(Row::NotCarried),
+        15 => Some(Row::BufferTooShort),
+        16 => Some(Row::NoSuchRecord),
+        17 => Some(Row::Folded),
+        20 => Some(Row::NotAFrame),
+        21 => Some(Row::WrongCheck),
+        22 => Some(Row::FrameTooLong),
+        28 => Some(Row::PayloadTooLong),
+        _ => None,
     }
-    if e.code != code {
-        return false;
-    }
-    if e.first != first {
-        return false;
-    }
-    if e.second != second {
-        return false;
-    }
-    true
 }
 
-// The refusal that no case wants: the answer to a case that cannot be run.
-pub fn none() -> Refusal
-    ensures { result ≡ row 0 0 0 0 }
+// The wanted answer by the numbers of the stream: a pass for row 0, and none for a number of no row.
+pub fn wanted(row: u8, code: u8, first: usize, second: usize) -> Option<Result<(), Refusal>>
+    ensures { (g : Guard) → (result ≡ Some g) ↔ IsWanted row code first second g }
 {
-    Refusal {
-        number: 0,
-        code: 0,
-        first: 0,
-        second: 0,
+    if row == 0 {
+        return Some(Ok(()));
     }
+    let row = row_of(row)?;
+    Some(Err(Refusal::with_values(row, code, first, second)))
 }
 
 // Puts b at every index from one up to another. False if the slice is too short.
+#[tactic(auto, unfolding(crate::specs::Buffer::putting))]
 pub fn put(into: &mut [u8], from: usize, to: usize, b: u8) -> bool
     ensures { (result, into.new) ≡ putting from to b into.old }
 {
     if into.len() < to {
         return false;
     }
-    let mut i = from;
-    while i < to {
-        into[i] = b;
-        i += 1;
+    if from < to {
+        into[from..to].fill(b);
     }
     true
 }
 
+// Fills the whole buffer with the case's byte. False if it is shorter than the case's room.
+#[tactic(auto, unfolding(crate::specs::Buffer::putting))]
+pub fn fill_up(c: Case, out: &mut [u8]) -> bool
+    ensures fits { (result ≡ true) ↔ c.room ≤ length out.old }
+    ensures filled { (result ≡ true) → out.new ≡ replicate (length out.old) c.fill }
+    ensures len { length out.new ≡ length out.old }
+{
+    let n = out.len();
+    c.room <= n && put(out, 0, n, c.fill)
+}
+
 // Whether the answer and every byte of a buffer are the wanted ones, after a writer was given only its room.
-pub fn wrote(c: Case, written: Written, want: &[u8], out: &[u8]) -> bool
+pub fn wrote(c: Case, written: Result<usize, Refusal>, want: &[u8], out: &[u8]) -> bool
     ensures { (result ≡ true) ↔ Tried c written want.now out.now }
 {
     let room = c.room;
-    if out.len() < room {
-        return false;
-    }
-    if !in_room(c, written, want, &out[0..room]) {
-        return false;
-    }
-    filled(out, room, c.fill)
+    room <= out.len() && in_room(c, written, want, &out[..room]) && filled(out, room, c.fill)
 }
 
 // Whether the answer and every byte of the room are the wanted ones.
-fn in_room(c: Case, written: Written, want: &[u8], out: &[u8]) -> bool
+#[tactic(auto, using(crate::proofs::Writes::effect_answer, crate::proofs::Writes::effect_wrote))]
+fn in_room(c: Case, written: Result<usize, Refusal>, want: &[u8], out: &[u8]) -> bool
     ensures { (result ≡ true) ↔ ((written, out.now) ≡ wanted_effect c want.now (length out.now)) }
 {
+    if !is_answer(c, written, want.len(), out.len()) {
+        return false;
+    }
     match written {
-        Written::Wrote(n) => {
-            if c.row != 0 {
-                return false;
-            }
-            if n != want.len() {
-                return false;
-            }
-            holds(out, 0, want, c.fill)
-        }
-        Written::Refused(e) => {
-            if !filled(out, 0, c.fill) {
-                return false;
-            }
-            refuses(c, e, want.len(), out.len())
-        }
+        Ok(_) => holds(out, 0, want, c.fill),
+        Err(_) => filled(out, 0, c.fill),
     }
 }
 
-// Whether e is the wanted refusal, if the output has n bytes and the buffer has given bytes.
-fn refuses(c: Case, e: Refusal, n: usize, given: usize) -> bool
-    ensures { (result ≡ true) ↔ (Refused e ≡ room_last (wanted c) (room c.code n given)) }
+// Whether the answer is the wanted one of a writer of n bytes that is given room for so many.
+fn is_answer(c: Case, written: Result<usize, Refusal>, n: usize, given: usize) -> bool
+    ensures { (result ≡ true) ↔ (written ≡ outcome (room_last c.wanted (room c.code n given)) n) }
 {
-    if c.row != 0 {
-        return c.refuses(e);
+    written == answer(c, n, given)
+}
+
+// The wanted answer of a writer of n bytes that is given room for so many.
+#[tactic(auto, unfolding(payload_util::specs::Guards::room))]
+fn answer(c: Case, n: usize, given: usize) -> Result<usize, Refusal>
+    ensures { result ≡ outcome (room_last c.wanted (room c.code n given)) n }
+{
+    c.wanted?;
+    if given < n {
+        return Err(Refusal::with_values(Row::BufferTooShort, c.code, n, given));
     }
-    if n <= given {
-        return false;
-    }
-    is_row(e, 15, c.code, n, given)
+    Ok(n)
 }
 
 // Whether a buffer has the wanted bytes from an index on, and the fill byte everywhere else.
+#[tactic(auto, using(crate::proofs::Buffers::around_parts))]
 pub fn holds(out: &[u8], at: usize, want: &[u8], fill: u8) -> bool
     ensures { (result ≡ true) ↔ (out.now ≡ around at want.now (length out.now) fill) }
 {
     let n = want.len();
-    if out.len() < n {
-        return false;
-    }
-    if out.len() - n < at {
+    if out.len() < n || out.len() - n < at {
         return false;
     }
     let end = at + n;
-    if !same(&out[at..end], want) {
-        return false;
-    }
-    if !filled(&out[0..at], 0, fill) {
+    if !same(&out[at..end], want) || !filled(&out[..at], 0, fill) {
         return false;
     }
     filled(out, end, fill)
 }
 
 // Whether the bytes are the same.
+#[tactic(auto, using(crate::proofs::Buffers::bytes_same))]
 fn same(a: &[u8], b: &[u8]) -> bool
     ensures { (result ≡ true) ↔ (a.now ≡ b.now) }
 {
@@ -227,22 +222,16 @@ fn same(a: &[u8], b: &[u8]) -> bool
 pub fn filled(s: &[u8], from: usize, b: u8) -> bool
     ensures { (result ≡ true) ↔ AllFrom s.now from b }
 {
-    let mut i = from;
-    while i < s.len() {
-        if s[i] != b {
-            return false;
-        }
-        i += 1;
-    }
-    true
+    s.len() <= from || s[from..].iter().all(|x| *x == b)
 }
 
 // Fields of records made by hand, and numbers taken apart. The library's own functions for numbers are not used, since they are what is tested.
+
 // The byte at an index, or 0.
 pub fn byte(s: &[u8], at: usize) -> u8
     ensures { result ≡ byte_at s.now at }
 {
-    if at < s.len() { s[at] } else { 0 }
+    s.get(at).copied().unwrap_or(0)
 }
 
 // The numbers of two and of four bytes from an offset on, low byte first.
@@ -252,7 +241,7 @@ pub fn u16_at(s: &[u8], offset: usize) -> u16
     if s.len() <= offset {
         return 0;
     }
-    (byte(s, offset) as u16) + 256 * (byte(s, offset + 1) as u16)
+    u16::from_le_bytes([byte(s, offset), byte(s, offset + 1)])
 }
 
 pub fn u32_at(s: &[u8], offset: usize) -> u32
@@ -261,20 +250,23 @@ pub fn u32_at(s: &[u8], offset: usize) -> u32
     if s.len() <= offset {
         return 0;
     }
-    (u16_at(s, offset) as u32) + 65536 * (u16_at(s, offset + 2) as u32)
+    u32::from_le_bytes([
+        byte(s, offset),
+        byte(s, offset + 1),
+        byte(s, offset + 2),
+        byte(s, offset + 3),
+    ])
 }
 
 // The bytes of a number, low byte first.
 pub fn u16_bytes(n: u16) -> [u8; 2]
     ensures { result ≡ u16_bytes n }
 {
-    [(n % 256) as u8, (n / 256) as u8]
+    n.to_le_bytes()
 }
 
 pub fn u32_bytes(n: u32) -> [u8; 4]
     ensures { result ≡ u32_bytes n }
 {
-    let low = u16_bytes((n % 65536) as u16);
-    let high = u16_bytes((n / 65536) as u16);
-    [low[0], low[1], high[0], high[1]]
+    n.to_le_bytes()
 }
