@@ -1,44 +1,168 @@
-// The names of numbers.
-use crate::out::word;
-use crate::table::{label, nth, row};
-use std::io;
-use std::io::Write;
+// The names of codes, which are the Rust's; those of command and reply bytes in capitals.
+use crate::shown::Coded;
 
-// The name that a letter's row has for a number, counted from 0, after the words before it: for a code, the Rust's. Nothing where the
-// row has none.
-pub(crate) fn name<W: Write>(letter: u8, n: u64, before: &[u8], out: &mut W) -> io::Result<()> {
-    let names = row(
-        label(b'%', letter, b' '),
-        b";%C Black.Red.Green.Amber.Blue.Magenta.Cyan.White\
-          ;%O Nop.PermanentOffAbortTimed.PermanentOnAbortTimed.PermanentOffAllowTimed.PermanentOnAllowTimed.\
-          TemporaryOnResume.TemporaryOffResume\
-          ;%T .PermanentNoWrap.PermanentWrap.TemporaryNoWrap.TemporaryWrap\
-          ;%B NotSpecified.RightThumb.RightIndex.RightMiddle.RightRing.RightLittle.LeftThumb.LeftIndex.LeftMiddle.\
-          LeftRing.LeftLittle.RightIris.RightRetina.LeftIris.LeftRetina.Face.RightHandGeometry.LeftHandGeometry\
-          ;%F NotSpecified.FingerprintRawPgm.FingerprintAnsi378\
-          ;%N NoError.BadCrcOrChecksum.CommandLengthError.UnknownCommandCode.UnexpectedSequenceNumber.\
-          SecurityBlockTypeNotSupported.EncryptedCommunicationRequired.BioTypeNotSupported.BioFormatNotSupported.\
-          UnableToProcessCommandRecord\
-          ;%A normal.tamper\
-          ;%P normal.power failure\
-          ;%w command.reply\
-          ;%y .strict: \
-          ;%m . (cut)\
-          ;%r .command byte in no table.reply byte in no table.not the exact length (expected, got).\
-          below the least length (least, got).empty or not a multiple of the record length (record length, got).\
-          declared length or count is not the payload's.output code above 6.text byte not printable.\
-          TEXT command not 1 to 4.NAK error above 9.list without records.tail too long.count is not the tail's.\
-          code known, payload not carried.output buffer too short (needed, given).no such record (record, how many).\
-          byte that reading would fold (offset, byte)...not a frame's first byte, control byte, address or sequence.\
-          wrong check of a frame.above the house limit......payload too long (longest, got)\
-          ;%e the line has to begin with command or reply, not with .no code byte after the word.\
-          the code byte has to have two hex digits.not a hex digit.half a byte, its second hex digit is missing.\
-          payload of more than 65,547 bytes",
-    );
-    let found = nth(n, names);
-    if found.len() == 0 {
-        return Ok(());
+pub fn command(code: u8) -> Option<&'static str> {
+    Some(match code {
+        0x60 => "POLL",
+        0x61 => "ID",
+        0x62 => "CAP",
+        0x64 => "LSTAT",
+        0x65 => "ISTAT",
+        0x66 => "OSTAT",
+        0x67 => "RSTAT",
+        0x68 => "OUT",
+        0x69 => "LED",
+        0x6A => "BUZ",
+        0x6B => "TEXT",
+        0x6E => "COMSET",
+        0x73 => "BIOREAD",
+        0x74 => "BIOMATCH",
+        0x75 => "KEYSET",
+        0x76 => "CHLNG",
+        0x77 => "SCRYPT",
+        0x7B => "ACURXSIZE",
+        0x7C => "FILETRANSFER",
+        0x80 => "MFG",
+        0xA1 => "XWRITE",
+        0xA2 => "ABORT",
+        0xA3 => "PIVDATA",
+        0xA4 => "GENAUTH",
+        0xA5 => "CRAUTH",
+        0xA7 => "KEEPACTIVE",
+        _ => return None,
+    })
+}
+
+pub fn reply(code: u8) -> Option<&'static str> {
+    Some(match code {
+        0x40 => "ACK",
+        0x41 => "NAK",
+        0x45 => "PDID",
+        0x46 => "PDCAP",
+        0x48 => "LSTATR",
+        0x49 => "ISTATR",
+        0x4A => "OSTATR",
+        0x4B => "RSTATR",
+        0x50 => "RAW",
+        0x51 => "FMT",
+        0x53 => "KEYPAD",
+        0x54 => "COM",
+        0x57 => "BIOREADR",
+        0x58 => "BIOMATCHR",
+        0x76 => "CCRYPT",
+        0x78 => "RMACI",
+        0x79 => "BUSY",
+        0x7A => "FTSTAT",
+        0x80 => "PIVDATAR",
+        0x81 => "GENAUTHR",
+        0x82 => "CRAUTHR",
+        0x83 => "MFGSTATR",
+        0x84 => "MFGERRR",
+        0x90 => "MFGREP",
+        0xB1 => "XRD",
+        _ => return None,
+    })
+}
+
+// A code whose names are counted from 0.
+fn coded(number: u64, names: &[&'static str]) -> Coded {
+    Coded {
+        number,
+        name: names.get(number as usize).copied(),
     }
-    word(before, out)?;
-    word(found, out)
+}
+
+pub fn color(number: u64) -> Coded {
+    coded(
+        number,
+        &[
+            "Black", "Red", "Green", "Amber", "Blue", "Magenta", "Cyan", "White",
+        ],
+    )
+}
+
+pub fn output_code(number: u64) -> Coded {
+    coded(
+        number,
+        &[
+            "Nop",
+            "PermanentOffAbortTimed",
+            "PermanentOnAbortTimed",
+            "PermanentOffAllowTimed",
+            "PermanentOnAllowTimed",
+            "TemporaryOnResume",
+            "TemporaryOffResume",
+        ],
+    )
+}
+
+// Its numbers begin with 1.
+pub fn text_command(number: u64) -> Coded {
+    let name = match number {
+        1 => Some("PermanentNoWrap"),
+        2 => Some("PermanentWrap"),
+        3 => Some("TemporaryNoWrap"),
+        4 => Some("TemporaryWrap"),
+        _ => None,
+    };
+    Coded { number, name }
+}
+
+pub fn bio_type(number: u64) -> Coded {
+    coded(
+        number,
+        &[
+            "NotSpecified",
+            "RightThumb",
+            "RightIndex",
+            "RightMiddle",
+            "RightRing",
+            "RightLittle",
+            "LeftThumb",
+            "LeftIndex",
+            "LeftMiddle",
+            "LeftRing",
+            "LeftLittle",
+            "RightIris",
+            "RightRetina",
+            "LeftIris",
+            "LeftRetina",
+            "Face",
+            "RightHandGeometry",
+            "LeftHandGeometry",
+        ],
+    )
+}
+
+pub fn bio_format(number: u64) -> Coded {
+    coded(
+        number,
+        &["NotSpecified", "FingerprintRawPgm", "FingerprintAnsi378"],
+    )
+}
+
+pub fn nak_error(number: u64) -> Coded {
+    coded(
+        number,
+        &[
+            "NoError",
+            "BadCrcOrChecksum",
+            "CommandLengthError",
+            "UnknownCommandCode",
+            "UnexpectedSequenceNumber",
+            "SecurityBlockTypeNotSupported",
+            "EncryptedCommunicationRequired",
+            "BioTypeNotSupported",
+            "BioFormatNotSupported",
+            "UnableToProcessCommandRecord",
+        ],
+    )
+}
+
+pub fn tamper(number: u64) -> Coded {
+    coded(number, &["normal", "tamper"])
+}
+
+pub fn power(number: u64) -> Coded {
+    coded(number, &["normal", "power failure"])
 }
