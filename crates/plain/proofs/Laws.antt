@@ -10,7 +10,7 @@ use Rattle.payload_util.specs.Bytes.{Bytes}
 use Rattle.payload_util.proofs.Words.{low_byte, high_byte, low_word, high_word}
 use Rattle.payload_util.proofs.Guards.{exact_pass, pass_exact}
 use Rattle.payload_util.proofs.Parts.{by_head, ended}
-use Rattle.payload_util.proofs.Scheme.{Law}
+use Rattle.payload_util.specs.Law.{Law}
 use Rattle.payload_util.proofs.Forms.{fixed_law}
 use Rattle.plain.specs.Exact.{exact}
 use Rattle.plain.specs.Com.{address_and_baud, com_set, com_reply}
@@ -25,19 +25,17 @@ module _ {A : Type 0} {code len : ℕ} {fields : List ℕ → A} {bytes : A → 
       fixed_law (λ p b g. keeps p b (exact_pass len code p g)) (λ p b g. refl) (λ r w. restores r) (λ p. refl)
       (λ r w. pass_exact len code (bytes r) (size r))
 
--- COMSET and COM: a record is made of its address and its baud rate
-module _ {A : Type 0} {code : ℕ} (make : ℕ → ℕ → A) (address baud : A → ℕ) where
-  com_law : ((a b : ℕ) → address (make a b) ≡ a) → ((a b : ℕ) → baud (make a b) ≡ b) → ((r : A) → make (address r) (baud r) ≡ r)
-      → Law (address_and_baud code make address baud)
-  com_law address_is baud-is whole =
-      exact_law (λ r. refl) (λ r. simp (mod-add-div, whole))
-      (λ p b e. by_head 5 p (λ q. q) (omega arith) (simp (address_is, baud-is, low_byte, high_byte, low_word, high_word, ended 5 p e)))
+-- COMSET and COM
+pub com_law : (code : ℕ) → Law (address_and_baud code)
+com_law code =
+    exact_law (λ r. refl) (λ r. simp mod-add-div)
+    (λ p b e. by_head 5 p (λ q. q) (omega arith) (simp (low_byte, high_byte, low_word, high_word, ended 5 p e)))
 
 pub com_set_law : Law com_set
-com_set_law = com_law (λ a b. record { address = a; baud = b }) (λ r. r.address) (λ r. r.baud) (λ a b. refl) (λ a b. refl) (λ r. refl)
+com_set_law = com_law _
 
 pub com_reply_law : Law com_reply
-com_reply_law = com_law (λ a b. record { address = a; baud = b }) (λ r. r.address) (λ r. r.baud) (λ a b. refl) (λ a b. refl) (λ r. refl)
+com_reply_law = com_law _
 
 pub pd_id_law : Law pd_id
 pd_id_law =

@@ -1,12 +1,8 @@
 -- osdp_PDID (0x45), R101.4, §7.4: the vendor's OUI of 3 bytes, model, version, serial number u32, and the firmware's major, minor and build number.
 use Rattle.std.specs.Prelude.{[], ◌∷◌, ◌++◌}
-use Rattle.payload_util.specs.Prelude.{byte_at, u32_at, u32_bytes, Outcome, gives, refuses, Form}
+use Rattle.payload_util.specs.Prelude.{byte_at, u32_at, u32_bytes, Form}
 use Rattle.plain.specs.Exact.{exact}
-use Rattle.plain.specs.declared.{pdid.PdId.PdId, pdid.PdIdRead.PdIdRead, pdid.PdIdRead.TheVariants.Read, pdid.PdIdRead.TheVariants.Refused}
-
-abbrev pub pd_id_outcome : PdIdRead → Outcome PdId
-pd_id_outcome (Read r) = gives r
-pd_id_outcome (Refused e) = refuses e
+use Rattle.plain.specs.declared.pdid.PdId.{PdId}
 
 abbrev pub pd_id : Form
 pd_id = exact {A = PdId} 0x45 12

@@ -1,62 +1,57 @@
 // osdp_ACURXSIZE (0x7B): the largest packet that the panel can receive.
 ghost use Rattle.std.specs.Prelude.{◌≡◌};
-ghost use Rattle.payload_util.specs.Prelude.{u16_bytes, put, check, read, write, normalise};
-ghost use Rattle.plain.specs.Number.{acu_rx_size_outcome, acu_rx_size};
+ghost use Rattle.payload_util.specs.Prelude.{u16_bytes, put, fields, write};
+ghost use Rattle.plain.specs.Number.{acu_rx_size};
 
 use payload_util::{
-    Guard, Refusal, Written, high_byte, low_byte, put_bytes, put_payload, require_exact_len, u16_at,
+    Payload, Record, Refusal, high_byte, low_byte, put_bytes, put_payload, require_exact_len,
+    u16_at,
 };
 
-#[derive(Clone, Copy)]
+#[derive(Clone, Copy, Debug, PartialEq, Eq)]
 pub struct AcuRxSize {
     pub max_size: u16,
 }
 
-#[derive(Clone, Copy)]
-pub enum AcuRxSizeRead {
-    Read(AcuRxSize),
-    Refused(Refusal),
-}
+impl Payload for AcuRxSize {
+    const CODE: u8 = 0x7B;
 
-impl AcuRxSize {
-    pub const CODE: u8 = 0x7B;
+    ghost form = { acu_rx_size };
 
-    pub const WIRE_LEN: usize = 2;
-
-    pub fn check(p: &[u8]) -> Guard
-        ensures { result ≡ check acu_rx_size p.now }
-    {
+    fn check(p: &[u8]) -> Result<(), Refusal> {
         require_exact_len(p, Self::WIRE_LEN, Self::CODE)
     }
 
-    pub fn decode(p: &[u8]) -> AcuRxSizeRead
-        ensures { acu_rx_size_outcome result ≡ read acu_rx_size p.now }
-    {
-        let checked = Self::check(p);
-        let Guard::Pass = checked else {
-            return AcuRxSizeRead::Refused(checked.refusal());
-        };
-        AcuRxSizeRead::Read(AcuRxSize {
-            max_size: u16_at(p, 0),
-        })
+    fn put_kept(p: &[u8], out: &mut [u8]) -> Result<usize, Refusal> {
+        put_payload(p, Self::CODE, out)
     }
 
-    pub fn encode(self, out: &mut [u8]) -> Written
+    #[tactic(auto, using(crate::proofs::Laws::acu_rx_size_law))]
+    fn keeps_law() {}
+}
+
+impl Record for AcuRxSize {
+    ghost fields = { fields acu_rx_size };
+
+    fn fields(p: &[u8]) -> AcuRxSize {
+        AcuRxSize {
+            max_size: u16_at(p, 0),
+        }
+    }
+}
+
+impl AcuRxSize {
+    pub const WIRE_LEN: usize = 2;
+
+    pub fn encode(self, out: &mut [u8]) -> Result<usize, Refusal>
         ensures { (result, out.new) ≡ write acu_rx_size self out.old }
     {
         put_number(self.max_size, Self::CODE, out)
     }
-
-    // Reading loses nothing: an accepted payload is written as it came.
-    pub fn normalise(p: &[u8], out: &mut [u8]) -> Written
-        ensures { (result, out.new) ≡ normalise acu_rx_size p.now out.old }
-    {
-        put_payload(Self::check(p), p, Self::CODE, out)
-    }
 }
 
 // Writes one number, as ACURXSIZE and KEEPACTIVE have it.
-pub(crate) fn put_number(number: u16, code: u8, out: &mut [u8]) -> Written
+pub(crate) fn put_number(number: u16, code: u8, out: &mut [u8]) -> Result<usize, Refusal>
     ensures { (result, out.new) ≡ put code (u16_bytes number) out.old }
 {
     put_bytes(&[low_byte(number), high_byte(number)], &[], code, out)

@@ -1,66 +1,64 @@
 // osdp_COM (0x54): the address and the baud rate of a reader.
-ghost use Rattle.std.specs.Prelude.{◌≡◌, ◌∷◌};
-ghost use Rattle.payload_util.specs.Prelude.{u32_bytes, put, check, read, write, normalise};
-ghost use Rattle.plain.specs.Com.{com_outcome, com_reply};
+ghost use Rattle.std.specs.Prelude.{◌≡◌};
+ghost use Rattle.payload_util.specs.Prelude.{fields, write};
+ghost use Rattle.plain.specs.Com.{address_and_baud};
 
 use payload_util::{
-    Guard, Refusal, Written, byte_at, put_bytes, put_payload, require_exact_len, u32_at, u32_bytes,
+    Payload, Record, Refusal, put_bytes, put_payload, require_exact_len, u32_at, u32_bytes,
 };
 
-#[derive(Clone, Copy)]
-pub struct Com {
+pub(crate) const LEN: usize = 5;
+
+// What COM and COMSET hold; they differ in the code byte alone.
+#[derive(Clone, Copy, Debug, PartialEq, Eq)]
+pub struct AddressAndBaud<const CODE: u8> {
     pub address: u8,
     pub baud: u32,
 }
 
-#[derive(Clone, Copy)]
-pub enum ComRead {
-    Read(Com),
-    Refused(Refusal),
+impl<const CODE: u8> Payload for AddressAndBaud<CODE> {
+    const CODE: u8 = CODE;
+
+    ghost form = { address_and_baud CODE };
+
+    fn check(p: &[u8]) -> Result<(), Refusal> {
+        require_exact_len(p, LEN, CODE)
+    }
+
+    fn put_kept(p: &[u8], out: &mut [u8]) -> Result<usize, Refusal> {
+        put_payload(p, CODE, out)
+    }
+
+    #[tactic(auto, using(crate::proofs::Laws::com_law))]
+    fn keeps_law() {}
 }
 
+impl<const CODE: u8> Record for AddressAndBaud<CODE> {
+    ghost fields = { fields (address_and_baud CODE) };
+
+    #[tactic(auto, using(payload_util::proofs::Guards::exact_pass))]
+    fn fields(p: &[u8]) -> AddressAndBaud<CODE> {
+        AddressAndBaud {
+            address: p[0],
+            baud: u32_at(p, 1),
+        }
+    }
+}
+
+impl<const CODE: u8> AddressAndBaud<CODE> {
+    pub fn encode(self, out: &mut [u8]) -> Result<usize, Refusal>
+        ensures { (result, out.new) ≡ write (address_and_baud CODE) self.entry out.old }
+    {
+        let b = u32_bytes(self.baud);
+        put_bytes(&[self.address, b[0], b[1], b[2], b[3]], &[], CODE, out)
+    }
+}
+
+pub type Com = AddressAndBaud<0x54>;
+
+// Its own constants, since a pattern of a `match` cannot name one of an `impl` for every code byte.
 impl Com {
     pub const CODE: u8 = 0x54;
 
-    pub const WIRE_LEN: usize = 5;
-
-    pub fn check(p: &[u8]) -> Guard
-        ensures { result ≡ check com_reply p.now }
-    {
-        require_exact_len(p, Self::WIRE_LEN, Self::CODE)
-    }
-
-    pub fn decode(p: &[u8]) -> ComRead
-        ensures { com_outcome result ≡ read com_reply p.now }
-    {
-        let checked = Self::check(p);
-        let Guard::Pass = checked else {
-            return ComRead::Refused(checked.refusal());
-        };
-        ComRead::Read(Com {
-            address: byte_at(p, 0),
-            baud: u32_at(p, 1),
-        })
-    }
-
-    pub fn encode(self, out: &mut [u8]) -> Written
-        ensures { (result, out.new) ≡ write com_reply self out.old }
-    {
-        put_address_and_baud(self.address, self.baud, Self::CODE, out)
-    }
-
-    // Reading loses nothing: an accepted payload is written as it came.
-    pub fn normalise(p: &[u8], out: &mut [u8]) -> Written
-        ensures { (result, out.new) ≡ normalise com_reply p.now out.old }
-    {
-        put_payload(Self::check(p), p, Self::CODE, out)
-    }
-}
-
-// Writes an address and a baud rate, as COM and COMSET have them.
-pub(crate) fn put_address_and_baud(address: u8, baud: u32, code: u8, out: &mut [u8]) -> Written
-    ensures { (result, out.new) ≡ put code (address ∷ u32_bytes baud) out.old }
-{
-    let b = u32_bytes(baud);
-    put_bytes(&[address, b[0], b[1], b[2], b[3]], &[], code, out)
+    pub const WIRE_LEN: usize = LEN;
 }

@@ -1,55 +1,49 @@
 // osdp_KEEPACTIVE (0xA7): for how many milliseconds a reader is to stay active. The layout is that of ACURXSIZE.
 ghost use Rattle.std.specs.Prelude.{◌≡◌};
-ghost use Rattle.payload_util.specs.Prelude.{check, read, write, normalise};
-ghost use Rattle.plain.specs.Number.{keep_active_outcome, keep_active};
+ghost use Rattle.payload_util.specs.Prelude.{fields, write};
+ghost use Rattle.plain.specs.Number.{keep_active};
 
 use crate::acu_rx_size::put_number;
-use payload_util::{Guard, Refusal, Written, put_payload, require_exact_len, u16_at};
+use payload_util::{Payload, Record, Refusal, put_payload, require_exact_len, u16_at};
 
-#[derive(Clone, Copy)]
+#[derive(Clone, Copy, Debug, PartialEq, Eq)]
 pub struct KeepActive {
     pub duration_ms: u16,
 }
 
-#[derive(Clone, Copy)]
-pub enum KeepActiveRead {
-    Read(KeepActive),
-    Refused(Refusal),
-}
+impl Payload for KeepActive {
+    const CODE: u8 = 0xA7;
 
-impl KeepActive {
-    pub const CODE: u8 = 0xA7;
+    ghost form = { keep_active };
 
-    pub const WIRE_LEN: usize = 2;
-
-    pub fn check(p: &[u8]) -> Guard
-        ensures { result ≡ check keep_active p.now }
-    {
+    fn check(p: &[u8]) -> Result<(), Refusal> {
         require_exact_len(p, Self::WIRE_LEN, Self::CODE)
     }
 
-    pub fn decode(p: &[u8]) -> KeepActiveRead
-        ensures { keep_active_outcome result ≡ read keep_active p.now }
-    {
-        let checked = Self::check(p);
-        let Guard::Pass = checked else {
-            return KeepActiveRead::Refused(checked.refusal());
-        };
-        KeepActiveRead::Read(KeepActive {
-            duration_ms: u16_at(p, 0),
-        })
+    fn put_kept(p: &[u8], out: &mut [u8]) -> Result<usize, Refusal> {
+        put_payload(p, Self::CODE, out)
     }
 
-    pub fn encode(self, out: &mut [u8]) -> Written
+    #[tactic(auto, using(crate::proofs::Laws::keep_active_law))]
+    fn keeps_law() {}
+}
+
+impl Record for KeepActive {
+    ghost fields = { fields keep_active };
+
+    fn fields(p: &[u8]) -> KeepActive {
+        KeepActive {
+            duration_ms: u16_at(p, 0),
+        }
+    }
+}
+
+impl KeepActive {
+    pub const WIRE_LEN: usize = 2;
+
+    pub fn encode(self, out: &mut [u8]) -> Result<usize, Refusal>
         ensures { (result, out.new) ≡ write keep_active self out.old }
     {
         put_number(self.duration_ms, Self::CODE, out)
-    }
-
-    // Reading loses nothing: an accepted payload is written as it came.
-    pub fn normalise(p: &[u8], out: &mut [u8]) -> Written
-        ensures { (result, out.new) ≡ normalise keep_active p.now out.old }
-    {
-        put_payload(Self::check(p), p, Self::CODE, out)
     }
 }

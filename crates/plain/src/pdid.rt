@@ -1,13 +1,13 @@
 // osdp_PDID (0x45): who made a reader, which one it is, and its firmware.
 ghost use Rattle.std.specs.Prelude.{◌≡◌};
-ghost use Rattle.payload_util.specs.Prelude.{check, read, write, normalise};
-ghost use Rattle.plain.specs.PdId.{pd_id_outcome, pd_id};
+ghost use Rattle.payload_util.specs.Prelude.{fields, write};
+ghost use Rattle.plain.specs.PdId.{pd_id};
 
 use payload_util::{
-    Guard, Refusal, Written, byte_at, put_bytes, put_payload, require_exact_len, u32_at, u32_bytes,
+    Payload, Record, Refusal, put_bytes, put_payload, require_exact_len, u32_at, u32_bytes,
 };
 
-#[derive(Clone, Copy)]
+#[derive(Clone, Copy, Debug, PartialEq, Eq)]
 pub struct PdId {
     pub oui_0: u8,
     pub oui_1: u8,
@@ -20,44 +20,46 @@ pub struct PdId {
     pub firmware_build: u8,
 }
 
-#[derive(Clone, Copy)]
-pub enum PdIdRead {
-    Read(PdId),
-    Refused(Refusal),
-}
+impl Payload for PdId {
+    const CODE: u8 = 0x45;
 
-impl PdId {
-    pub const CODE: u8 = 0x45;
+    ghost form = { pd_id };
 
-    pub const WIRE_LEN: usize = 12;
-
-    pub fn check(p: &[u8]) -> Guard
-        ensures { result ≡ check pd_id p.now }
-    {
+    fn check(p: &[u8]) -> Result<(), Refusal> {
         require_exact_len(p, Self::WIRE_LEN, Self::CODE)
     }
 
-    pub fn decode(p: &[u8]) -> PdIdRead
-        ensures { pd_id_outcome result ≡ read pd_id p.now }
-    {
-        let checked = Self::check(p);
-        let Guard::Pass = checked else {
-            return PdIdRead::Refused(checked.refusal());
-        };
-        PdIdRead::Read(PdId {
-            oui_0: byte_at(p, 0),
-            oui_1: byte_at(p, 1),
-            oui_2: byte_at(p, 2),
-            model: byte_at(p, 3),
-            version: byte_at(p, 4),
-            serial: u32_at(p, 5),
-            firmware_major: byte_at(p, 9),
-            firmware_minor: byte_at(p, 10),
-            firmware_build: byte_at(p, 11),
-        })
+    fn put_kept(p: &[u8], out: &mut [u8]) -> Result<usize, Refusal> {
+        put_payload(p, Self::CODE, out)
     }
 
-    pub fn encode(self, out: &mut [u8]) -> Written
+    #[tactic(auto, using(crate::proofs::Laws::pd_id_law))]
+    fn keeps_law() {}
+}
+
+impl Record for PdId {
+    ghost fields = { fields pd_id };
+
+    #[tactic(auto, using(payload_util::proofs::Guards::exact_pass))]
+    fn fields(p: &[u8]) -> PdId {
+        PdId {
+            oui_0: p[0],
+            oui_1: p[1],
+            oui_2: p[2],
+            model: p[3],
+            version: p[4],
+            serial: u32_at(p, 5),
+            firmware_major: p[9],
+            firmware_minor: p[10],
+            firmware_build: p[11],
+        }
+    }
+}
+
+impl PdId {
+    pub const WIRE_LEN: usize = 12;
+
+    pub fn encode(self, out: &mut [u8]) -> Result<usize, Refusal>
         ensures { (result, out.new) ≡ write pd_id self out.old }
     {
         let serial = u32_bytes(self.serial);
@@ -76,12 +78,5 @@ impl PdId {
             self.firmware_build,
         ];
         put_bytes(&head, &[], Self::CODE, out)
-    }
-
-    // Reading loses nothing: an accepted payload is written as it came.
-    pub fn normalise(p: &[u8], out: &mut [u8]) -> Written
-        ensures { (result, out.new) ≡ normalise pd_id p.now out.old }
-    {
-        put_payload(Self::check(p), p, Self::CODE, out)
     }
 }
