@@ -199,13 +199,6 @@ pub fn require_tail_len(tail: &[u8], asked: usize, code: u8) -> Result<(), Refus
     require(tail.len() == asked, Refusal::new(Row::TailLength, code))
 }
 
-// How many bytes a buffer has to have for len bytes from an offset on, or the largest usize if that is more.
-pub fn end_need(offset: usize, len: usize) -> usize
-    ensures { result ≡ min (offset + len) 18446744073709551615 }
-{
-    offset.saturating_add(len)
-}
-
 // Row 15: the buffer has room for what is to be written.
 #[tactic(auto, unfolding(crate::specs::Guards::room))]
 pub fn require_room(needed: usize, code: u8, given: usize) -> Result<(), Refusal>
@@ -324,84 +317,12 @@ pub fn u32_bytes(n: u32) -> [u8; 4]
     n.to_le_bytes()
 }
 
-// The longest piece of a copy.
-const BLOCK: usize = 2048;
-
-// Copies all of src into out from an offset on, byte by byte.
-fn copy_bytes(src: &[u8], out: &mut [u8], offset: usize)
-    requires { offset + length src.now ≤ length out.old }
-    ensures { out.new ≡ paste out.old offset src.now (length src.now) }
-{
-    let mut i = 0;
-    while i < src.len() {
-        out[offset + i] = src[i];
-        i += 1;
-    }
-}
-
-// Copies all of src through a block. The block overlaps neither src nor out, so the compiler removes it and makes one move of both loops:
-// in registers if it knows the length, otherwise by memmove.
-fn copy_block(src: &[u8], out: &mut [u8], offset: usize)
-    requires { (length src.now ≤ 2048) × (offset + length src.now ≤ length out.old) }
-    ensures { out.new ≡ paste out.old offset src.now (length src.now) }
-{
-    let mut block = [0; BLOCK];
-    copy_bytes(src, &mut block, 0);
-    copy_bytes(&block[..src.len()], out, offset);
-}
-
-// Copies a src of k to 2 k bytes: its first k, and then its last k, which meet or overlap.
-fn copy_ends(src: &[u8], out: &mut [u8], offset: usize, k: usize)
-    requires { (k ≤ length src.now) × (length src.now ≤ 2 * k) × (k ≤ 32) × (offset + length src.now ≤ length out.old) }
-    ensures { out.new ≡ paste out.old offset src.now (length src.now) }
-{
-    let last = src.len() - k;
-    copy_block(&src[..k], out, offset);
-    copy_block(&src[last..], out, offset + last);
-}
-
-// Where the piece that starts at done ends, if n bytes are copied in all.
-fn piece_end(done: usize, n: usize) -> usize
-    requires { done < n }
-    ensures { (done < result) × (result ≤ n) × (result ≤ done + 2048) }
-{
-    if n - done <= BLOCK { n } else { done + BLOCK }
-}
-
-// Copies all of src piece by piece.
-fn copy_pieces(src: &[u8], out: &mut [u8], offset: usize)
-    requires { offset + length src.now ≤ length out.old }
-    ensures { out.new ≡ paste out.old offset src.now (length src.now) }
-{
-    let mut done = 0;
-    while done < src.len() {
-        let end = piece_end(done, src.len());
-        copy_block(&src[done..end], out, offset + done);
-        done = end;
-    }
-}
-
-// Copies all of src, and is quick for a few bytes: the compiler knows each k.
+// Copies all of src into out from an offset on.
 fn copy_at(src: &[u8], out: &mut [u8], offset: usize)
     requires { offset + length src.now ≤ length out.old }
     ensures { out.new ≡ paste out.old offset src.now (length src.now) }
 {
-    let n = src.len();
-    if 64 < n {
-        copy_pieces(src, out, offset);
-    } else if 32 <= n {
-        copy_ends(src, out, offset, 32);
-    } else if 16 <= n {
-        copy_ends(src, out, offset, 16);
-    } else if 8 <= n {
-        copy_ends(src, out, offset, 8);
-    } else if 4 <= n {
-        copy_ends(src, out, offset, 4);
-    } else if 2 <= n {
-        copy_ends(src, out, offset, 2);
-    } else {
-        copy_bytes(src, out, offset);
-    }
+    out[offset..offset + src.len()].copy_from_slice(src);
 }
 
 // Writes head and then tail at the front of out, or refuses and leaves out as it is.
@@ -426,7 +347,7 @@ pub fn put_parts(
     ensures { (result, out.new) ≡ put code ((head.now ++ body.now) ++ tail.now) out.old }
 {
     let last = head.len() + body.len();
-    let needed = end_need(last, tail.len());
+    let needed = last.saturating_add(tail.len());
     require_room(needed, code, out.len())?;
     copy_at(head, out, 0);
     copy_at(body, out, head.len());

@@ -6,7 +6,7 @@ use Rattle.payload_util.proofs.put_parts.Goals as goal
 
 pub returns-in_err-require_room : goal.returns-in_err-require_room
 returns-in_err-require_room c =
-    let e = refused (room_capped _ _ _ (omega arith) c.require_room.ensures c.end_need-needed.ensures) c.in_err-require_room.was in
+    let e = refused (room_capped _ _ _ (omega arith) c.require_room.ensures c.saturating_add-needed.ensures) c.in_err-require_room.was in
     let l = length-append (c.args.head.now ++ c.args.body.now) c.args.tail.now in
     let k = length-append c.args.head.now c.args.body.now in
     let p = put_refused c.args.code ((c.args.head.now ++ c.args.body.now) ++ c.args.tail.now) c.args.out.now (omega (arith, l, k)) e in
@@ -14,24 +14,24 @@ returns-in_err-require_room c =
 
 pub copy_at-requires : goal.copy_at-requires
 copy_at-requires c =
-    let fits = room_capped _ _ _ (omega arith) c.require_room.ensures c.end_need-needed.ensures in
+    let fits = room_capped _ _ _ (omega arith) c.require_room.ensures c.saturating_add-needed.ensures in
     omega (arith, room_pass _ _ _ (passed fits c.in_ok-require_room.was))
 
 pub copy_at-requires-2 : goal.copy_at-requires-2
 copy_at-requires-2 c =
-    let fits = room_capped _ _ _ (omega arith) c.require_room.ensures c.end_need-needed.ensures in
+    let fits = room_capped _ _ _ (omega arith) c.require_room.ensures c.saturating_add-needed.ensures in
     omega (arith, c.copy_at.auto.out, room_pass _ _ _ (passed fits c.in_ok-require_room.was))
 
 pub copy_at-requires-3 : goal.copy_at-requires-3
 copy_at-requires-3 c =
-    let fits = room_capped _ _ _ (omega arith) c.require_room.ensures c.end_need-needed.ensures in
+    let fits = room_capped _ _ _ (omega arith) c.require_room.ensures c.saturating_add-needed.ensures in
     omega (arith, c.copy_at.auto.out, c.copy_at-2.auto.out, room_pass _ _ _ (passed fits c.in_ok-require_room.was))
 
 pub returns : goal.returns
 returns c =
     let a = c.args in
-    let pass = passed (room_capped _ _ _ (omega arith) c.require_room.ensures c.end_need-needed.ensures) c.in_ok-require_room.was in
-    let need : c.end_need-needed.result ≡ length a.head.now + length a.body.now + length a.tail.now =
-    c.end_need-needed.ensures ∙ min-eq_left (omega (arith, room_pass _ _ _ pass)) in
+    let pass = passed (room_capped _ _ _ (omega arith) c.require_room.ensures c.saturating_add-needed.ensures) c.in_ok-require_room.was in
+    let need : c.saturating_add-needed.result ≡ length a.head.now + length a.body.now + length a.tail.now =
+    c.saturating_add-needed.ensures ∙ min-eq_left (omega (arith, room_pass _ _ _ pass)) in
     three_parts a.code _ a.head.now a.body.now a.tail.now a.out.now _ _ _ need (rw need pass)
     c.copy_at.ensures c.copy_at-2.ensures c.copy_at-3.ensures
