@@ -7,7 +7,7 @@ use lib.ListN.{drop}
 use Rattle.payload_util.proofs.Words.{low_byte, high_byte}
 use Rattle.payload_util.proofs.Guards.{head_and_tail_pass, pass_head_and_tail, tail_len_pass, pass_tail_len}
 use Rattle.payload_util.proofs.Parts.{by_head}
-use Rattle.payload_util.proofs.Scheme.{Law}
+use Rattle.payload_util.specs.Law.{Law}
 use Rattle.payload_util.proofs.Forms.{tailed_law}
 use Rattle.raw_card.specs.Raw.{raw}
 use Rattle.raw_card.specs.Fmt.{fmt}

@@ -1,11 +1,7 @@
 -- osdp_FMT (0x51), R4.9, §7.11: reader, direction, count, and that many characters.
 use Rattle.std.specs.Prelude.{◌∷◌, drop}
-use Rattle.payload_util.specs.Prelude.{byte_at, head_and_tail, tail_len, nothing, Outcome, gives, refuses, Form, tailed}
-use Rattle.raw_card.specs.declared.{Fmt.Fmt, FmtRead.FmtRead, FmtRead.TheVariants.Read, FmtRead.TheVariants.Refused}
-
-abbrev pub fmt_outcome : FmtRead → Outcome Fmt
-fmt_outcome (Read f) = gives f
-fmt_outcome (Refused e) = refuses e
+use Rattle.payload_util.specs.Prelude.{byte_at, head_and_tail, tail_len, nothing, Form, tailed}
+use Rattle.raw_card.specs.declared.Fmt.{Fmt}
 
 -- a payload is refused by rows 4 and 6, a record by row 13
 abbrev pub fmt : Form

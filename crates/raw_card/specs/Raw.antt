@@ -1,12 +1,7 @@
 -- osdp_RAW (0x50), R4.8, §7.10: reader, format, bit count u16, and the bits, eight to a byte. The last byte's bits past the count are kept.
 use Rattle.std.specs.Prelude.{List, [], ◌∷◌, ◌++◌, ℕ, ◌+◌, ◌*◌, ◌/◌, ◌%◌, min, length, take, drop}
-use Rattle.payload_util.specs.Prelude.{byte_at, u16_at, u16_bytes, flat}
-use Rattle.payload_util.specs.Prelude.{head_and_tail, tail_len, nothing, Outcome, gives, refuses, Form, tailed, code, Effect, put}
-use Rattle.raw_card.specs.declared.{Raw.Raw, RawRead.RawRead, RawRead.TheVariants.Read, RawRead.TheVariants.Refused}
-
-abbrev pub raw_outcome : RawRead → Outcome Raw
-raw_outcome (Read r) = gives r
-raw_outcome (Refused e) = refuses e
+use Rattle.payload_util.specs.Prelude.{byte_at, u16_at, u16_bytes, flat, head_and_tail, tail_len, nothing, Form, tailed, code, Effect, put}
+use Rattle.raw_card.specs.declared.Raw.{Raw}
 
 -- the count divided by 8 and rounded up
 abbrev pub bytes_for : ℕ → ℕ
