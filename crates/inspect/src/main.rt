@@ -3,8 +3,6 @@
 
 use inspect_answer::failure::fail;
 use inspect_answer::input::all;
-use inspect_form::out::flush;
-use inspect_line::LONGEST;
 use std::env::FillError;
 use std::fs::File;
 use std::io::{BufWriter, Read, Write};
@@ -27,12 +25,9 @@ fn help(rt: &impl Print) -> io::Result<()> {
 }
 
 fn inspect<P: Print + Eprint + AllocGlobal, R: Read>(rt: &P, from: &mut R) -> io::Result<()> {
-    let mut input = [0u8; 65536];
-    let mut payload = [0u8; LONGEST];
-    let mut space = [0u8; LONGEST];
     let mut out = BufWriter::with_capacity(rt.alloc(), 65536, io::writer(rt))?;
-    all(rt, from, &mut input, &mut payload, &mut space, &mut out)?;
-    flush(&mut out)
+    all(rt, from, &mut out)?;
+    out.flush()
 }
 
 fn inspect_file<P: Files + Print + Eprint + AllocGlobal>(rt: &P, name: &str) -> io::Result<()> {

@@ -1,128 +1,93 @@
-// What the library says of a payload, in words. The words of its code come as a row: the name and, for a kind, the template of a record.
-ghost use Rattle.std.specs.Prelude.{◌<◌, length};
+// What the library says of a payload, in words.
+ghost use Rattle.std.specs.Prelude.{◌<◌};
 
-use crate::Shown;
+use crate::record::record;
 use inspect_fields::{of, tail};
-use inspect_form::form;
-use inspect_form::out::first;
-use inspect_form::table::nth;
+use inspect_form::names;
+use inspect_form::sentences::sentence;
+use inspect_form::shown::Hex;
 use inspect_line::Line;
 use led::LedRecord;
-use osdp::{Kind, Lookup, Side};
+use osdp::{Kind, Side};
 use output::OutputRecord;
-use payload_util::{Guard, Refusal, Written};
+use payload_util::Refusal;
 use std::io;
 use std::io::Write;
 
-fn side_number(line: Line) -> u64 {
-    let side = line.side;
-    match side {
-        Side::Command => 0,
-        Side::Reply => 1,
+pub(crate) fn title<W: Write>(line: &Line, out: &mut W) -> io::Result<()> {
+    let code = line.code;
+    let (side, name) = match line.side {
+        Side::Command => ("command", names::command(code)),
+        Side::Reply => ("reply", names::reply(code)),
+    };
+    write!(out, "line {}: {side} {code:02X}", line.number)?;
+    if let Some(name) = name {
+        write!(out, " {name}")?;
     }
+    writeln!(out, ", length {}", line.bytes().len())
 }
 
-fn title<W: Write>(line: Line, name: &[u8], out: &mut W) -> io::Result<()> {
-    let values = [
-        line.number as u64,
-        side_number(line),
-        line.code as u64,
-        0,
-        line.len as u64,
-    ];
-    form(b"line %d: %w %x%s, length %d\n", &values, name, out)
+// A refusal: its row's number, its two numbers, and what it means.
+pub(crate) fn refusal<W: Write>(e: Refusal, out: &mut W) -> io::Result<()> {
+    writeln!(
+        out,
+        "refused, row {} ({}, {}): {}",
+        e.row.number(),
+        e.first,
+        e.second,
+        sentence(e.row)
+    )
 }
 
-// A refusal: its number, its two numbers, and what it means. Of the strict check (1, not 0), that is said too.
-fn refusal<W: Write>(strict: u64, e: Refusal, out: &mut W) -> io::Result<()> {
-    let row = e.number as u64;
-    let values = [strict, row, e.first as u64, e.second as u64, row];
-    form(b"  %yrefused, row %d (%d, %d): %r\n", &values, b"", out)
-}
-
-// The offset after the record at an offset; only LED and OUT have more than one record.
-fn next(kind: Kind, p: &[u8], offset: usize) -> usize
-    requires { offset < length p.now }
-    ensures { offset < result }
+// How many bytes a record has, or 1 for none; only LED and OUT have more than one record.
+fn record_len(kind: Kind, p: &[u8]) -> usize
+    ensures { 0 < result }
 {
     match kind {
-        Kind::Led => offset + LedRecord::WIRE_LEN,
-        Kind::Out => offset + OutputRecord::WIRE_LEN,
-        _ => p.len(),
+        Kind::Led => LedRecord::WIRE_LEN,
+        Kind::Out => OutputRecord::WIRE_LEN,
+        _ => p.len().max(1),
     }
 }
 
 // The records, one after another.
-fn records<W: Write>(
-    kind: Kind,
-    template: &[u8],
-    p: &[u8],
-    tail: &[u8],
-    out: &mut W,
-) -> io::Result<()> {
-    let mut offset: usize = 0;
-    while offset < p.len() {
-        form(template, &of(kind, p, offset), tail, out)?;
-        offset = next(kind, p, offset);
+fn records<W: Write>(kind: Kind, p: &[u8], tail: &[u8], out: &mut W) -> io::Result<()> {
+    for offset in (0..p.len()).step_by(record_len(kind, p)) {
+        record(kind, &of(kind, p, offset), tail, out)?;
     }
     Ok(())
 }
 
 // The strict check's first complaint.
-fn strict<W: Write>(line: Line, p: &[u8], out: &mut W) -> io::Result<()> {
-    let side = line.side;
-    match osdp::strict(side, line.code, p) {
-        Guard::Pass => Ok(()),
-        Guard::Refused(e) => refusal(1, e, out),
+fn strict<W: Write>(line: &Line, out: &mut W) -> io::Result<()> {
+    match osdp::strict(line.side, line.code, line.bytes()) {
+        Ok(()) => Ok(()),
+        Err(e) => {
+            write!(out, "  strict: ")?;
+            refusal(e, out)
+        }
     }
 }
 
 // The normalised bytes, where they are not the payload's.
-fn normalised<W: Write>(line: Line, p: &[u8], space: &mut [u8], out: &mut W) -> io::Result<()> {
-    let side = line.side;
-    let Written::Wrote(n) = osdp::normalise(side, line.code, p, space) else {
+fn normalised<W: Write>(line: &Line, space: &mut [u8], out: &mut W) -> io::Result<()> {
+    let p = line.bytes();
+    let Ok(n) = osdp::normalise(line.side, line.code, p, &mut *space) else {
         return Ok(());
     };
-    let bytes = first(space, n);
-    if bytes == p {
-        return Ok(());
+    match space.get(..n) {
+        Some(bytes) if bytes != p => writeln!(out, "  normalised:{}", Hex(bytes)),
+        _ => Ok(()),
     }
-    form(b"  normalised:%h\n", &[], bytes, out)
 }
 
-fn accepted<W: Write>(
-    line: Line,
-    words: &[u8],
-    p: &[u8],
-    space: &mut [u8],
-    out: &mut W,
-) -> io::Result<()> {
-    let side = line.side;
-    let Lookup::Carried(kind) = osdp::kind_of(side, line.code) else {
+// A payload that was not refused. The space is for RAW's bits and for the normalised bytes.
+pub(crate) fn accepted<W: Write>(line: &Line, space: &mut [u8], out: &mut W) -> io::Result<()> {
+    let p = line.bytes();
+    let Ok(kind) = osdp::kind_of(line.side, line.code) else {
         return Ok(());
     };
-    records(kind, nth(1, words), p, tail(kind, p, space), out)?;
-    strict(line, p, out)?;
-    normalised(line, p, space, out)
-}
-
-pub(crate) fn answer<W: Write>(
-    line: Line,
-    words: &[u8],
-    p: &[u8],
-    space: &mut [u8],
-    out: &mut W,
-) -> io::Result<Shown> {
-    title(line, nth(0, words), out)?;
-    let side = line.side;
-    match osdp::check(side, line.code, p) {
-        Guard::Pass => {
-            accepted(line, words, p, space, out)?;
-            Ok(Shown { is_refused: false })
-        }
-        Guard::Refused(e) => {
-            refusal(0, e, out)?;
-            Ok(Shown { is_refused: true })
-        }
-    }
+    records(kind, p, tail(kind, p, &mut *space), out)?;
+    strict(line, out)?;
+    normalised(line, space, out)
 }
