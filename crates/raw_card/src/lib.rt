@@ -106,8 +106,14 @@ fn fill_bits(bits: &[u8], out: &mut [u8])
     requires { length out.old ≤ 8 * length bits.now }
     ensures { out.new ≡ take (length out.old) (all_bits bits.now) }
 {
-    for (at, bit) in out.iter_mut().enumerate() {
-        *bit = bits[at / 8] >> (7 - at % 8) & 1;
+    for (i, byte) in bits.iter().enumerate() {
+        for k in 0..8 {
+            let at = 8 * i + k;
+            if at == out.len() {
+                return;
+            }
+            out[at] = *byte >> (7 - k) & 1;
+        }
     }
 }
 

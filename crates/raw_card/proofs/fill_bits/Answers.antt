@@ -1,17 +1,14 @@
-use Rattle.std.proofs.Common.{◌*◌, ◌<◌, length, arith}
-use Rattle.payload_util.proofs.Filled.{filled_none, filled_more}
-use Rattle.raw_card.proofs.Bits.{length_all, bit_at, whole}
+use Rattle.std.proofs.Common.{◌≡◌, ◌+◌, ◌*◌, ◌<◌, length, arith}
+use Rattle.payload_util.proofs.Filled.{filled_more}
+use Rattle.raw_card.proofs.Bits.{length_all, bit_at}
 use Rattle.raw_card.proofs.fill_bits.Goals as goal
 
-pub loop-at-init : goal.loop-at-init
-loop-at-init c = filled_none _ _
-
-pub loop-at-preserved : goal.loop-at-preserved
-loop-at-preserved c =
-    let l = c.loop-at in
+pub loop-k-preserved : goal.loop-k-preserved
+loop-k-preserved c =
     let bits = c.args.bits.now in
-    let within : l.at < 8 * length bits = omega arith in
-    filled_more _ _ l.invariant (omega (arith, length_all bits)) (omega arith) (bit_at bits l.at within)
-
-pub returns : goal.returns
-returns c = whole _ _ _ _ (omega arith) c.loop-at.invariant
+    let i = c.loop-i.i in
+    let l = c.loop-k in
+    let room : 8 * i + l.k < length l.out = omega arith in
+    let next : 8 * i + (l.k + 1) ≡ 8 * i + l.k + 1 = omega arith in
+    let more = filled_more _ _ l.invariant.filled (omega (arith, length_all bits)) room (bit_at bits i l.k c.loop-i-test.true c.loop-k-test.true) in
+    record { within = omega (arith, more.long, l.invariant.filled.long); filled = rw next more }
