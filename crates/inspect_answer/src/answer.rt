@@ -8,6 +8,7 @@ use inspect_form::sentences::sentence;
 use inspect_form::shown::Hex;
 use inspect_line::Line;
 use led::LedRecord;
+use lists::ListRecord;
 use osdp::{Kind, Side};
 use output::OutputRecord;
 use payload_util::Refusal;

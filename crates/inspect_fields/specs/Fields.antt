@@ -1,11 +1,8 @@
 -- The fixed fields of each kind's record as numbers, in the Rust's order: each number as it is, each code as its byte.
-use Rattle.std.specs.Prelude.{List, [], ◌∷◌, ◌++◌, ℕ, ◌-◌, ◌/◌, length, drop, replicate}
-use Rattle.payload_util.specs.Outcome.{Outcome, gives, refuses}
+use Rattle.std.specs.Prelude.{List, [], ◌∷◌, ◌++◌, ℕ, ◌-◌, ◌/◌, length, drop, replicate, Ok, Err, Option, None, Some}
 use Rattle.payload_util.specs.Form.{read}
-use Rattle.led.specs.Led.{color_byte, step_led}
+use Rattle.led.specs.Led.{color_byte, led_at}
 use Rattle.led.specs.declared.LedRecord.{LedRecord}
-use Rattle.led.specs.declared.LedStep.{LedStep}
-use Rattle.led.specs.declared.LedStep.TheVariants.{Record, Finished}
 use Rattle.output.specs.Output.{output_byte, read_out_at}
 use Rattle.output.specs.declared.OutputRecord.{OutputRecord}
 use Rattle.text.specs.Text.{text_command_byte, text_kind}
@@ -28,16 +25,18 @@ use Rattle.xrd.specs.Xrd.{xrd}
 use Rattle.xrd.specs.declared.Xrd.{Xrd as XrdRecord}
 use Rattle.keypad.specs.Keypad.{keypad}
 use Rattle.keypad.specs.declared.Keypad.{Keypad as KeypadRecord}
-use Rattle.plain.specs.{Com.com_set, Com.com_reply, PdId.pd_id, LStat.l_stat_r, Number.acu_rx_size, Number.keep_active}
-use Rattle.plain.specs.declared.comset.ComSet.{ComSet as ComSetRecord}
-use Rattle.plain.specs.declared.com.Com.{Com as ComRecord}
+use Rattle.plain.specs.Com.{com_set, com_reply}
+use Rattle.plain.specs.PdId.{pd_id}
+use Rattle.plain.specs.LStat.{l_stat_r}
+use Rattle.plain.specs.Number.{acu_rx_size, keep_active}
+use Rattle.plain.specs.declared.com.AddressAndBaud.{AddressAndBaud}
 use Rattle.plain.specs.declared.pdid.PdId.{PdId as PdIdRecord}
 use Rattle.plain.specs.declared.lstat.LStatR.{LStatR as LStatRRecord}
 use Rattle.plain.specs.declared.acu_rx_size.AcuRxSize.{AcuRxSize as AcuRxSizeRecord}
 use Rattle.plain.specs.declared.keep_active.KeepActive.{KeepActive as KeepActiveRecord}
 use Rattle.osdp.specs.declared.Kind.{Kind}
-use Rattle.osdp.specs.declared.Kind.TheVariants.{Led, Out, Text, BioRead, BioMatch, FileTransfer, Mfg, Raw, Fmt, BioReadR, BioMatchR, Nak, Xrd}
-use Rattle.osdp.specs.declared.Kind.TheVariants.{Keypad, ComSet, Com, PdId, LStatR, AcuRxSize, KeepActive}
+use Rattle.osdp.specs.declared.Kind.TheVariants.{Led, Out, Text, BioRead, BioMatch, FileTransfer, Mfg, Raw, Fmt, BioReadR, BioMatchR, Nak, Xrd, Keypad, ComSet, Com, PdId, LStatR, AcuRxSize, KeepActive}
+use Rattle.payload_util.specs.Refusals.{Outcome}
 
 -- temporary, then permanent
 abbrev pub led_fields : LedRecord → List ℕ
@@ -82,11 +81,9 @@ xrd_fields x = x.mode ∷ []
 abbrev pub keypad_fields : KeypadRecord → List ℕ
 keypad_fields k = k.reader ∷ k.digit_count ∷ []
 
-abbrev pub com_set_fields : ComSetRecord → List ℕ
-com_set_fields r = r.address ∷ r.baud ∷ []
-
-abbrev pub com_fields : ComRecord → List ℕ
-com_fields r = r.address ∷ r.baud ∷ []
+-- COMSET's and COM's
+abbrev pub address_and_baud_fields : {code : ℕ} → AddressAndBaud code → List ℕ
+address_and_baud_fields r = r.address ∷ r.baud ∷ []
 
 abbrev pub pd_id_fields : PdIdRecord → List ℕ
 pd_id_fields r =
@@ -104,21 +101,21 @@ keep_active_fields r = r.duration_ms ∷ []
 
 -- the fields where there is a record, else none
 abbrev pub of_record : {A : Type 0} → (A → List ℕ) → Outcome A → List ℕ
-of_record fields (gives a) = fields a
-of_record fields (refuses e) = []
+of_record fields (Ok a) = fields a
+of_record fields (Err e) = []
 
 -- of a record in a list, its index and its offset stand before its fields
 abbrev pub placed : ℕ → ℕ → List ℕ → List ℕ
 placed width offset fields = offset / width ∷ offset ∷ fields
 
 -- none where fewer than 14 bytes are left
-abbrev pub of_step : ℕ → LedStep → List ℕ
-of_step offset (Record r) = placed 14 offset (led_fields r)
-of_step offset Finished = []
+abbrev pub of_led : ℕ → Option LedRecord → List ℕ
+of_led offset (Some r) = placed 14 offset (led_fields r)
+of_led offset None = []
 
 -- LED's and OUT's record is the one that starts at the offset
 abbrev pub fields_of : Kind → List ℕ → ℕ → List ℕ
-fields_of Led p offset = of_step offset (step_led p offset)
+fields_of Led p offset = of_led offset (led_at p offset)
 fields_of Out p offset = of_record (λ r. placed 4 offset (out_fields r)) (read_out_at (drop offset p))
 fields_of Text p offset = of_record text_fields (read text_kind p)
 fields_of BioRead p offset = of_record (λ r. head_fields r.head) (read bio_read p)
@@ -132,8 +129,8 @@ fields_of BioMatchR p offset = of_record bio_match_r_fields (read bio_match_r p)
 fields_of Nak p offset = of_record nak_fields (read nak p)
 fields_of Xrd p offset = of_record xrd_fields (read xrd p)
 fields_of Keypad p offset = of_record keypad_fields (read keypad p)
-fields_of ComSet p offset = of_record com_set_fields (read com_set p)
-fields_of Com p offset = of_record com_fields (read com_reply p)
+fields_of ComSet p offset = of_record address_and_baud_fields (read com_set p)
+fields_of Com p offset = of_record address_and_baud_fields (read com_reply p)
 fields_of PdId p offset = of_record pd_id_fields (read pd_id p)
 fields_of LStatR p offset = of_record l_stat_r_fields (read l_stat_r p)
 fields_of AcuRxSize p offset = of_record acu_rx_size_fields (read acu_rx_size p)

@@ -1,54 +1,49 @@
 // What is shown of each kind: the fixed fields of its record as numbers, in their order, and its tail.
 #![tactic(auto)]
 
-ghost use Rattle.std.specs.Prelude.{◌≡◌, [], ◌∷◌, ◌≤◌, length};
-ghost use Rattle.osdp.specs.declared.Kind.TheVariants as kinds;
-ghost use Rattle.inspect_fields.specs.Fields.{head_fields, padded, fields_of};
+ghost use Rattle.std.specs.Prelude.{◌≡◌, ◌≤◌, length};
+ghost use Rattle.inspect_fields.specs.Fields.{padded, placed, led_fields, out_fields, text_fields, head_fields, file_transfer_fields, mfg_fields, raw_fields, fmt_fields, bio_match_r_fields, nak_fields, xrd_fields, keypad_fields, address_and_baud_fields, pd_id_fields, l_stat_r_fields, acu_rx_size_fields, keep_active_fields, fields_of};
 
-use bio::{BioMatchR, BioMatchRRead, BioReadR, BioReadRRead};
-use biometric::{BioHead, BioMatch, BioMatchRead, BioRead, BioReadRead};
-use file_transfer::{FileTransfer, FileTransferRead};
-use keypad::{Keypad, KeypadRead};
-use led::{LedRecord, LedStep};
-use mfg::{Mfg, MfgRead};
-use nak::{Nak, NakRead};
+use bio::{BioMatchR, BioReadR};
+use biometric::{BioHead, BioMatch, BioRead};
+use file_transfer::FileTransfer;
+use keypad::Keypad;
+use led::LedRecord;
+use lists::ListRecord;
+use mfg::Mfg;
+use nak::Nak;
 use osdp::Kind;
-use output::{OutputRead, OutputRecord};
-use payload_util::Written;
-use plain::acu_rx_size::{AcuRxSize, AcuRxSizeRead};
-use plain::com::{Com, ComRead};
-use plain::comset::{ComSet, ComSetRead};
-use plain::keep_active::{KeepActive, KeepActiveRead};
-use plain::lstat::{LStatR, LStatRRead};
-use plain::pdid::{PdId, PdIdRead};
-use raw_card::{Fmt, FmtRead, Raw, RawRead};
-use text::{Text, TextRead};
-use xrd::{Xrd, XrdRead};
+use output::OutputRecord;
+use payload_util::Record;
+use plain::acu_rx_size::AcuRxSize;
+use plain::com::{AddressAndBaud, Com};
+use plain::comset::ComSet;
+use plain::keep_active::KeepActive;
+use plain::lstat::LStatR;
+use plain::pdid::PdId;
+use raw_card::{Fmt, Raw};
+use text::Text;
+use xrd::Xrd;
 
-// Up to five values, and zeros: LED and PDID have more.
-fn five(a: u64, b: u64, c: u64, d: u64, e: u64) -> [u64; 15]
-    ensures { result ≡ padded (a ∷ b ∷ c ∷ d ∷ e ∷ []) }
+// The fields of a payload that has no record.
+const NONE: [u64; 15] = [0; 15];
+
+// Up to 15 values, and zeros: LED has most.
+fn padded(values: &[u64]) -> [u64; 15]
+    requires { length values.now ≤ 15 }
+    ensures { result ≡ padded values.now }
 {
-    [a, b, c, d, e, 0, 0, 0, 0, 0, 0, 0, 0, 0, 0]
+    let mut all = NONE;
+    all[..values.len()].copy_from_slice(values);
+    all
 }
 
-// The record at an offset: its number, the offset and the fields.
-fn led(p: &[u8], offset: usize) -> [u64; 15]
-    ensures { result ≡ padded (fields_of kinds.Led p.now offset) }
+// A record of a list: its number, its offset and the fields.
+fn led(r: LedRecord, offset: usize) -> [u64; 15]
+    ensures { result ≡ padded (placed 14 offset (led_fields r)) }
 {
-    let LedStep::Record(r) = LedRecord::decode_at(p, offset) else {
-        return [0; 15];
-    };
     let t = r.temporary;
     let u = r.permanent;
-    let on_color = t.on_color;
-    let off_color = t.off_color;
-    let then_on_color = u.on_color;
-    let then_off_color = u.off_color;
-    let on = on_color.as_byte() as u64;
-    let off = off_color.as_byte() as u64;
-    let then_on = then_on_color.as_byte() as u64;
-    let then_off = then_off_color.as_byte() as u64;
     [
         (offset / LedRecord::WIRE_LEN) as u64,
         offset as u64,
@@ -57,205 +52,110 @@ fn led(p: &[u8], offset: usize) -> [u64; 15]
         t.control as u64,
         t.on_time as u64,
         t.off_time as u64,
-        on,
-        off,
+        t.on_color.as_byte() as u64,
+        t.off_color.as_byte() as u64,
         t.timer as u64,
         u.control as u64,
         u.on_time as u64,
         u.off_time as u64,
-        then_on,
-        then_off,
+        u.on_color.as_byte() as u64,
+        u.off_color.as_byte() as u64,
     ]
 }
 
-fn output(p: &[u8], offset: usize) -> [u64; 15]
-    ensures { result ≡ padded (fields_of kinds.Out p.now offset) }
+fn output(r: OutputRecord, offset: usize) -> [u64; 15]
+    ensures { result ≡ padded (placed 4 offset (out_fields r)) }
 {
-    let OutputRead::Read(r) = OutputRecord::decode_at(p, offset) else {
-        return [0; 15];
-    };
-    let control = r.code;
-    let code = control.as_byte() as u64;
-    five(
+    padded(&[
         (offset / OutputRecord::WIRE_LEN) as u64,
         offset as u64,
         r.output as u64,
-        code,
+        r.code.as_byte() as u64,
         r.timer as u64,
-    )
+    ])
 }
 
-fn text(p: &[u8]) -> [u64; 15]
-    ensures { result ≡ padded (fields_of kinds.Text p.now 0) }
+fn text(t: Text) -> [u64; 15]
+    ensures { result ≡ padded (text_fields t) }
 {
-    let TextRead::Read(t) = Text::decode(p) else {
-        return [0; 15];
-    };
-    let asked = t.command;
-    let command = asked.as_byte() as u64;
-    five(
+    padded(&[
         t.reader as u64,
-        command,
+        t.command.as_byte() as u64,
         t.temp_time_s as u64,
         t.row as u64,
         t.column as u64,
-    )
+    ])
 }
 
 fn bio_head(h: BioHead) -> [u64; 15]
     ensures { result ≡ padded (head_fields h) }
 {
-    let of_type = h.bio_type;
-    let in_format = h.bio_format;
-    let bio_type = of_type.as_byte() as u64;
-    let bio_format = in_format.as_byte() as u64;
-    five(h.reader as u64, bio_type, bio_format, h.quality as u64, 0)
+    padded(&[
+        h.reader as u64,
+        h.bio_type.as_byte() as u64,
+        h.bio_format.as_byte() as u64,
+        h.quality as u64,
+    ])
 }
 
-fn bio_read(p: &[u8]) -> [u64; 15]
-    ensures { result ≡ padded (fields_of kinds.BioRead p.now 0) }
+fn file_transfer(r: FileTransfer) -> [u64; 15]
+    ensures { result ≡ padded (file_transfer_fields r) }
 {
-    match BioRead::decode(p) {
-        BioReadRead::Read(r) => bio_head(r.head),
-        BioReadRead::Refused(_) => [0; 15],
-    }
+    padded(&[r.file_type as u64, r.total_size as u64, r.offset as u64])
 }
 
-fn bio_match(p: &[u8]) -> [u64; 15]
-    ensures { result ≡ padded (fields_of kinds.BioMatch p.now 0) }
+fn mfg(r: Mfg) -> [u64; 15]
+    ensures { result ≡ padded (mfg_fields r) }
 {
-    match BioMatch::decode(p) {
-        BioMatchRead::Read(r) => bio_head(r.head),
-        BioMatchRead::Refused(_) => [0; 15],
-    }
+    padded(&[r.oui_0 as u64, r.oui_1 as u64, r.oui_2 as u64])
 }
 
-fn bio_read_r(p: &[u8]) -> [u64; 15]
-    ensures { result ≡ padded (fields_of kinds.BioReadR p.now 0) }
+fn raw(r: Raw) -> [u64; 15]
+    ensures { result ≡ padded (raw_fields r) }
 {
-    match BioReadR::decode(p) {
-        BioReadRRead::Read(r) => bio_head(r.head),
-        BioReadRRead::Refused(_) => [0; 15],
-    }
+    padded(&[r.reader as u64, r.format_code as u64, r.bit_count as u64])
 }
 
-fn file_transfer(p: &[u8]) -> [u64; 15]
-    ensures { result ≡ padded (fields_of kinds.FileTransfer p.now 0) }
+fn fmt(r: Fmt) -> [u64; 15]
+    ensures { result ≡ padded (fmt_fields r) }
 {
-    let FileTransferRead::Read(r) = FileTransfer::decode(p) else {
-        return [0; 15];
-    };
-    five(
-        r.file_type as u64,
-        r.total_size as u64,
-        r.offset as u64,
-        0,
-        0,
-    )
+    padded(&[r.reader as u64, r.direction as u64, r.char_count as u64])
 }
 
-fn mfg(p: &[u8]) -> [u64; 15]
-    ensures { result ≡ padded (fields_of kinds.Mfg p.now 0) }
+fn bio_match_r(r: BioMatchR) -> [u64; 15]
+    ensures { result ≡ padded (bio_match_r_fields r) }
 {
-    let MfgRead::Read(r) = Mfg::decode(p) else {
-        return [0; 15];
-    };
-    five(r.oui_0 as u64, r.oui_1 as u64, r.oui_2 as u64, 0, 0)
+    padded(&[r.reader as u64, r.result as u64, r.score as u64])
 }
 
-fn raw(p: &[u8]) -> [u64; 15]
-    ensures { result ≡ padded (fields_of kinds.Raw p.now 0) }
+fn nak(r: Nak) -> [u64; 15]
+    ensures { result ≡ padded (nak_fields r) }
 {
-    let RawRead::Read(r) = Raw::decode(p) else {
-        return [0; 15];
-    };
-    five(
-        r.reader as u64,
-        r.format_code as u64,
-        r.bit_count as u64,
-        0,
-        0,
-    )
+    padded(&[r.error.as_byte() as u64])
 }
 
-fn fmt(p: &[u8]) -> [u64; 15]
-    ensures { result ≡ padded (fields_of kinds.Fmt p.now 0) }
+fn xrd(r: Xrd) -> [u64; 15]
+    ensures { result ≡ padded (xrd_fields r) }
 {
-    let FmtRead::Read(r) = Fmt::decode(p) else {
-        return [0; 15];
-    };
-    five(
-        r.reader as u64,
-        r.direction as u64,
-        r.char_count as u64,
-        0,
-        0,
-    )
+    padded(&[r.mode as u64])
 }
 
-fn bio_match_r(p: &[u8]) -> [u64; 15]
-    ensures { result ≡ padded (fields_of kinds.BioMatchR p.now 0) }
+fn keypad(r: Keypad) -> [u64; 15]
+    ensures { result ≡ padded (keypad_fields r) }
 {
-    let BioMatchRRead::Read(r) = BioMatchR::decode(p) else {
-        return [0; 15];
-    };
-    five(r.reader as u64, r.result as u64, r.score as u64, 0, 0)
+    padded(&[r.reader as u64, r.digit_count as u64])
 }
 
-fn nak(p: &[u8]) -> [u64; 15]
-    ensures { result ≡ padded (fields_of kinds.Nak p.now 0) }
+fn address_and_baud<const CODE: u8>(r: AddressAndBaud<CODE>) -> [u64; 15]
+    ensures { result ≡ padded (address_and_baud_fields r.entry) }
 {
-    let NakRead::Read(r) = Nak::decode(p) else {
-        return [0; 15];
-    };
-    let named = r.error;
-    let error = named.as_byte() as u64;
-    five(error, 0, 0, 0, 0)
+    padded(&[r.address as u64, r.baud as u64])
 }
 
-fn xrd(p: &[u8]) -> [u64; 15]
-    ensures { result ≡ padded (fields_of kinds.Xrd p.now 0) }
+fn pd_id(r: PdId) -> [u64; 15]
+    ensures { result ≡ padded (pd_id_fields r) }
 {
-    let XrdRead::Read(r) = Xrd::decode(p) else {
-        return [0; 15];
-    };
-    five(r.mode as u64, 0, 0, 0, 0)
-}
-
-fn keypad(p: &[u8]) -> [u64; 15]
-    ensures { result ≡ padded (fields_of kinds.Keypad p.now 0) }
-{
-    let KeypadRead::Read(r) = Keypad::decode(p) else {
-        return [0; 15];
-    };
-    five(r.reader as u64, r.digit_count as u64, 0, 0, 0)
-}
-
-fn com_set(p: &[u8]) -> [u64; 15]
-    ensures { result ≡ padded (fields_of kinds.ComSet p.now 0) }
-{
-    let ComSetRead::Read(r) = ComSet::decode(p) else {
-        return [0; 15];
-    };
-    five(r.address as u64, r.baud as u64, 0, 0, 0)
-}
-
-fn com(p: &[u8]) -> [u64; 15]
-    ensures { result ≡ padded (fields_of kinds.Com p.now 0) }
-{
-    let ComRead::Read(r) = Com::decode(p) else {
-        return [0; 15];
-    };
-    five(r.address as u64, r.baud as u64, 0, 0, 0)
-}
-
-fn pd_id(p: &[u8]) -> [u64; 15]
-    ensures { result ≡ padded (fields_of kinds.PdId p.now 0) }
-{
-    let PdIdRead::Read(r) = PdId::decode(p) else {
-        return [0; 15];
-    };
-    [
+    padded(&[
         r.oui_0 as u64,
         r.oui_1 as u64,
         r.oui_2 as u64,
@@ -265,40 +165,25 @@ fn pd_id(p: &[u8]) -> [u64; 15]
         r.firmware_major as u64,
         r.firmware_minor as u64,
         r.firmware_build as u64,
-        0,
-        0,
-        0,
-        0,
-        0,
-        0,
-    ]
+    ])
 }
 
-fn l_stat_r(p: &[u8]) -> [u64; 15]
-    ensures { result ≡ padded (fields_of kinds.LStatR p.now 0) }
+fn l_stat_r(r: LStatR) -> [u64; 15]
+    ensures { result ≡ padded (l_stat_r_fields r) }
 {
-    let LStatRRead::Read(r) = LStatR::decode(p) else {
-        return [0; 15];
-    };
-    five(r.tamper as u64, r.power as u64, 0, 0, 0)
+    padded(&[r.tamper as u64, r.power as u64])
 }
 
-fn acu_rx_size(p: &[u8]) -> [u64; 15]
-    ensures { result ≡ padded (fields_of kinds.AcuRxSize p.now 0) }
+fn acu_rx_size(r: AcuRxSize) -> [u64; 15]
+    ensures { result ≡ padded (acu_rx_size_fields r) }
 {
-    let AcuRxSizeRead::Read(r) = AcuRxSize::decode(p) else {
-        return [0; 15];
-    };
-    five(r.max_size as u64, 0, 0, 0, 0)
+    padded(&[r.max_size as u64])
 }
 
-fn keep_active(p: &[u8]) -> [u64; 15]
-    ensures { result ≡ padded (fields_of kinds.KeepActive p.now 0) }
+fn keep_active(r: KeepActive) -> [u64; 15]
+    ensures { result ≡ padded (keep_active_fields r) }
 {
-    let KeepActiveRead::Read(r) = KeepActive::decode(p) else {
-        return [0; 15];
-    };
-    five(r.duration_ms as u64, 0, 0, 0, 0)
+    padded(&[r.duration_ms as u64])
 }
 
 // The fields of a payload's record, or zeros where it has none. Of LED and OUT that is the record at the offset, after its number and the
@@ -307,26 +192,32 @@ pub fn of(kind: Kind, p: &[u8], offset: usize) -> [u64; 15]
     ensures { result ≡ padded (fields_of kind p.now offset) }
 {
     match kind {
-        Kind::Led => led(p, offset),
-        Kind::Out => output(p, offset),
-        Kind::Text => text(p),
-        Kind::BioRead => bio_read(p),
-        Kind::BioMatch => bio_match(p),
-        Kind::FileTransfer => file_transfer(p),
-        Kind::Mfg => mfg(p),
-        Kind::Raw => raw(p),
-        Kind::Fmt => fmt(p),
-        Kind::BioReadR => bio_read_r(p),
-        Kind::BioMatchR => bio_match_r(p),
-        Kind::Nak => nak(p),
-        Kind::Xrd => xrd(p),
-        Kind::Keypad => keypad(p),
-        Kind::ComSet => com_set(p),
-        Kind::Com => com(p),
-        Kind::PdId => pd_id(p),
-        Kind::LStatR => l_stat_r(p),
-        Kind::AcuRxSize => acu_rx_size(p),
-        Kind::KeepActive => keep_active(p),
+        Kind::Led => match LedRecord::decode_at(p, offset) {
+            Some(r) => led(r, offset),
+            None => NONE,
+        },
+        Kind::Out => match OutputRecord::decode_at(p, offset) {
+            Ok(r) => output(r, offset),
+            Err(_) => NONE,
+        },
+        Kind::Text => Text::decode(p).map_or(NONE, text),
+        Kind::BioRead => BioRead::decode(p).map(|r| r.head).map_or(NONE, bio_head),
+        Kind::BioMatch => BioMatch::decode(p).map(|r| r.head).map_or(NONE, bio_head),
+        Kind::FileTransfer => FileTransfer::decode(p).map_or(NONE, file_transfer),
+        Kind::Mfg => Mfg::decode(p).map_or(NONE, mfg),
+        Kind::Raw => Raw::decode(p).map_or(NONE, raw),
+        Kind::Fmt => Fmt::decode(p).map_or(NONE, fmt),
+        Kind::BioReadR => BioReadR::decode(p).map(|r| r.head).map_or(NONE, bio_head),
+        Kind::BioMatchR => BioMatchR::decode(p).map_or(NONE, bio_match_r),
+        Kind::Nak => Nak::decode(p).map_or(NONE, nak),
+        Kind::Xrd => Xrd::decode(p).map_or(NONE, xrd),
+        Kind::Keypad => Keypad::decode(p).map_or(NONE, keypad),
+        Kind::ComSet => ComSet::decode(p).map_or(NONE, address_and_baud),
+        Kind::Com => Com::decode(p).map_or(NONE, address_and_baud),
+        Kind::PdId => PdId::decode(p).map_or(NONE, pd_id),
+        Kind::LStatR => LStatR::decode(p).map_or(NONE, l_stat_r),
+        Kind::AcuRxSize => AcuRxSize::decode(p).map_or(NONE, acu_rx_size),
+        Kind::KeepActive => KeepActive::decode(p).map_or(NONE, keep_active),
     }
 }
 
@@ -334,19 +225,16 @@ pub fn of(kind: Kind, p: &[u8], offset: usize) -> [u64; 15]
 fn spread(p: &[u8], space: &mut [u8]) -> usize
     ensures { result ≤ length space.new }
 {
-    let RawRead::Read(r) = Raw::decode(p) else {
+    let Ok(r) = Raw::decode(p) else {
         return 0;
     };
-    match r.iter_bits(Raw::bits(p), &mut *space) {
-        Written::Wrote(n) => { if n <= space.len() { n } else { 0 } }
-        Written::Refused(_) => 0,
-    }
+    let n = r.iter_bits(Raw::bits(p), &mut *space).unwrap_or(0);
+    n.min(space.len())
 }
 
 fn bits<'a>(p: &[u8], space: &'a mut [u8]) -> &'a [u8] {
     let n = spread(p, &mut *space);
-    let put = &space[..];
-    &put[0..n]
+    &space[..n]
 }
 
 // What a payload has after its fixed fields; of RAW the bits, a byte each, which are put into the space.
