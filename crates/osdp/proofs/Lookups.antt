@@ -9,7 +9,6 @@ use lib.ListN.{length}
 use Rattle.std.specs.Prelude.{Ok, Err}
 use Rattle.payload_util.specs.Refusals.{Outcome}
 use Rattle.payload_util.specs.Outcome.{outcome}
-use Rattle.payload_util.specs.Form.{code}
 use Rattle.payload_util.proofs.Guards.{check_pass, gives_pass}
 use Rattle.osdp.specs.declared.Side.{Side}
 use Rattle.osdp.specs.declared.Kind.{Kind}

@@ -3,6 +3,7 @@
 use mathlib.Core.Path.{ap, ◌∙◌}
 use Rattle.payload_util.specs.Refusals.{◌also◌, Guard}
 use Rattle.payload_util.specs.Form.{code, loss, refuse, bytes, check, normalise}
+use Rattle.payload_util.specs.declared.Row.TheVariants.{Folded}
 use Rattle.payload_util.proofs.InOrder.{also_none}
 use Rattle.payload_util.proofs.Limits.{none_folded}
 use Rattle.payload_util.proofs.Scheme.{leaves, rewrite_leaves, normalise_leaves}
