@@ -1,5 +1,5 @@
--- A text that is checked in two parts; the test on a word of n bytes, byte by byte; and the bytes of a word. Assumes nothing.
-use mathlib.Core.Path.{◌≡◌, refl, ap, ap₂, ◌∙◌}
+-- A text that is checked in two parts; the test on a word of n bytes, byte by byte; the bytes of a word; and what `all` answers. Assumes nothing.
+use mathlib.Core.Path.{◌≡◌, refl, sym, ap, ap₂, ◌∙◌}
 use mathlib.Core.Bool.{Bool, true, false, ◌&&◌}
 use mathlib.Core.List.{List, [], ◌∷◌}
 use Prim.Native.Nat.{ℕ, zero, suc, ◌+◌, ◌-◌, ◌*◌, ◌/◌, ◌%◌, ◌≤◌, ◌<◌}
@@ -9,23 +9,26 @@ use lib.Bits.{bit_and, bit_or, and_block, or_block, and_le_r, or_lt, and_zero_r}
 use lib.Dec.{T, leb, ltb, eqb, eqb→eq, leb→le, ltb→lt}
 use mir.Facts.{and_yes}
 use lib.ListN.{length, get_or, take, drop}
-use lib.Seq.{take-take, drop-cons, drop-drop}
+use lib.Seq.{take_all, drop-cons, drop-drop}
 use Rattle.payload_util.specs.Bytes.{Bytes}
-use Rattle.payload_util.specs.Refusals.{row, require, ◌also◌, in_order}
-use Rattle.payload_util.specs.declared.Guard.{Guard}
-use Rattle.payload_util.specs.declared.Guard.TheVariants.{Pass, Refused}
+use Rattle.payload_util.specs.Refusals.{require, ◌also◌, in_order, Guard, refusal}
 use Rattle.payload_util.proofs.Below.{all, below}
 use Rattle.text.specs.Text.{text_code, printable_at, printable, bytes_of, KnownWord}
+use Rattle.std.specs.Prelude.{Ok, Err}
+use Rattle.std.specs.List.{list_all}
+use Rattle.std.specs.Simd.{first_chunks}
+use Rattle.std.specs.Int.{w64, from_le_bytes}
+use Rattle.payload_util.specs.declared.Row.TheVariants.{UnprintableText}
 
 -- ---- a text, byte by byte and in two parts
 
 -- the answer to a yes or no, and back
 abbrev pub told : Bool → Guard
-told t = require t (row 8 text_code 0 0)
+told t = require t (refusal UnprintableText text_code 0 0)
 
-abbrev passes : Guard → Bool
-passes Pass = true
-passes (Refused e) = false
+abbrev pub passes : Guard → Bool
+passes (Ok _) = true
+passes (Err e) = false
 
 -- whether a byte is printable
 abbrev shown : ℕ → Bool
@@ -176,7 +179,52 @@ word_bytes (suc n) i p h b =
     let rest : (word_of n (suc i) p * 256 + get_or p i 0) / 256 ≡ word_of n (suc i) p = omega (arith, b i) in
     rw (low, rest, drop-cons p i 0 (omega arith)) (ap (λ (l : List ℕ). get_or p i 0 ∷ l) (word_bytes n (suc i) p (omega arith) b))
 
--- a turn of the loop at i: w is the word of the n bytes from there on, and t the answer to it
-pub next_word : (s : List ℕ) (i n w : ℕ) (t : Bool) → n ≡ 8 → bytes_of 8 w ≡ take 8 (take n (drop i s)) → told t ≡ printable (bytes_of 8 w)
-    → printable (drop i s) ≡ (told t also printable (drop (i + 8) s))
-next_word s i n w t eight e h = rw (h, e, take-take 8 n (drop i s) (omega arith)) (rw drop-drop at (apart 8 (drop i s)))
+-- the word of eight bytes, as the code reads it
+pub word_read : (s : List ℕ) (w : ℕ) → length s ≡ 8 → Bytes s → w ≡ from_le_bytes w64 s → bytes_of 8 w ≡ s
+word_read s w l b e =
+    let is : w ≡ word_of 8 0 s = omega (arith, e) in
+    ap (bytes_of 8) is ∙ word_bytes 8 0 s (omega arith) b ∙ take_all 8 s (omega arith)
+
+-- ---- what `all` answers over the words and over single bytes
+
+-- a text's answer as a yes or no
+abbrev pub all_shown : List ℕ → Bool
+all_shown s = passes (printable s)
+
+both : (a b : Bool) → told (a && b) ≡ (told a also told b)
+both true b = refl
+both false b = refl
+
+-- over single bytes
+pub singly : (s : List ℕ) → told (list_all (λ b. leb 0x20 b && leb b 0x7E) s) ≡ printable s
+unfolding printable in_order
+singly [] = refl
+singly (b ∷ s) =
+    rw (first_byte b s, ← singly s, ← shown_is (leb 0x20 b && leb b 0x7E)) (both (leb 0x20 b && leb b 0x7E) (list_all (λ c. leb 0x20 c && leb c 0x7E) s))
+
+told_shown : (s : List ℕ) → told (all_shown s) ≡ printable s
+told_shown s = rw (← singly s) (told_back (list_all (λ b. leb 0x20 b && leb b 0x7E) s))
+  where
+    told_back : (t : Bool) → told (passes (told t)) ≡ told t
+    told_back true = refl
+    told_back false = refl
+
+words_told : (n : ℕ) (s : List ℕ) → (told (list_all all_shown (first_chunks 8 n s)) also printable (drop (n * 8) s)) ≡ printable s
+words_told zero s = refl
+words_told (suc n) s =
+    let a = all_shown (take 8 s) in
+    let rest = list_all all_shown (first_chunks 8 n (drop 8 s)) in
+    let at : drop (suc n * 8) s ≡ drop (n * 8) (drop 8 s) = ap (λ (i : ℕ). drop i s) (omega arith) ∙ sym (drop-drop (n * 8) 8 s) in
+    ap (λ (g : Guard). g also printable (drop (suc n * 8) s)) (both a rest)
+    ∙ sym (told_also a (told rest) (printable (drop (suc n * 8) s)))
+    ∙ ap₂ ◌also◌ (told_shown (take 8 s)) (ap (λ (t : List ℕ). told rest also printable t) at ∙ words_told n (drop 8 s))
+    ∙ sym (apart 8 s)
+
+-- t is the answer to the first n words, and then comes the rest
+pub in_words : (n : ℕ) (s : List ℕ) (t : Bool) → t ≡ list_all all_shown (first_chunks 8 n s) → (told t also printable (drop (n * 8) s)) ≡ printable s
+in_words n s t e = rw e (words_told n s)
+
+-- a test that answers as a guard does
+pub told_is : (t : Bool) (g : Guard) → told t ≡ g → t ≡ passes g
+told_is true g e = rw (← e)
+told_is false g e = rw (← e)

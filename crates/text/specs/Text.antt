@@ -1,12 +1,11 @@
 -- osdp_TEXT (0x6B), R4.3, §6.12, Tables 21 and 22: reader, command, time, row, column, length, and so many bytes of text.
-use Rattle.std.specs.Prelude.{◌&&◌, ◌≡◌, List, [], ◌∷◌, ℕ, zero, suc, ◌/◌, ◌%◌, leb, length, drop}
-use Rattle.payload_util.specs.Prelude.{byte_at, row, require, ◌also◌, head_and_tail, at_most, in_order}
-use Rattle.payload_util.specs.Prelude.{named, Outcome, gives, refuses, guard_of, value_or, nothing, Form, tailed}
-use Rattle.payload_util.specs.declared.Guard.{Guard}
-use Rattle.text.specs.declared.{Text.Text, TextRead.TextRead, TextRead.TheVariants.Read, TextRead.TheVariants.Refused}
-use Rattle.text.specs.declared.{TextCommand.TextCommand, TextCommandRead.TextCommandRead}
+use Rattle.std.specs.Prelude.{◌&&◌, ◌≡◌, List, [], ◌∷◌, ℕ, zero, suc, ◌/◌, ◌%◌, leb, length, drop, Ok, Err}
+use Rattle.payload_util.specs.Prelude.{byte_at, require, ◌also◌, head_and_tail, at_most, in_order, named, Outcome, guard_of, value_or, nothing, Form, tailed}
+use Rattle.text.specs.declared.Text.{Text}
+use Rattle.text.specs.declared.TextCommand.{TextCommand}
 use Rattle.text.specs.declared.TextCommand.TheVariants.{PermanentNoWrap, PermanentWrap, TemporaryNoWrap, TemporaryWrap}
-use Rattle.text.specs.declared.TextCommandRead.TheVariants.{Read as CommandRead, Refused as CommandRefused}
+use Rattle.payload_util.specs.Refusals.{Guard, refusal}
+use Rattle.payload_util.specs.declared.Row.TheVariants.{UnknownTextCommand, UnprintableText}
 
 abbrev pub text_code : ℕ
 text_code = 0x6B
@@ -21,17 +20,13 @@ text_command_byte TemporaryWrap = 0x04
 abbrev pub text_commands : List TextCommand
 text_commands = PermanentNoWrap ∷ PermanentWrap ∷ TemporaryNoWrap ∷ TemporaryWrap ∷ []
 
-abbrev pub text_command_outcome : TextCommandRead → Outcome TextCommand
-text_command_outcome (CommandRead c) = gives c
-text_command_outcome (CommandRefused e) = refuses e
-
 -- the command that has this byte; row 9 for any other byte
 unfoldable pub read_text_command : ℕ → Outcome TextCommand
-read_text_command b = named text_command_byte gives (refuses (row 9 text_code 0 0)) text_commands b
+read_text_command b = named text_command_byte Ok (Err (refusal UnknownTextCommand text_code 0 0)) text_commands b
 
 -- row 8: a byte of the text lies in 0x20 to 0x7E
 abbrev pub printable_at : List ℕ → ℕ → Guard
-printable_at s i = require (leb 0x20 (byte_at s i) && leb (byte_at s i) 0x7E) (row 8 text_code 0 0)
+printable_at s i = require (leb 0x20 (byte_at s i) && leb (byte_at s i) 0x7E) (refusal UnprintableText text_code 0 0)
 
 -- each byte, in order
 unfoldable pub printable : List ℕ → Guard
@@ -54,10 +49,6 @@ text_shape p = head_and_tail 6 (byte_at p 5) text_code p also printable (drop 6 
 abbrev pub text_with : TextCommand → List ℕ → Text
 text_with command p =
     record { reader = byte_at p 0; command = command; temp_time_s = byte_at p 2; row = byte_at p 3; column = byte_at p 4 }
-
-abbrev pub text_outcome : TextRead → Outcome Text
-text_outcome (Read t) = gives t
-text_outcome (Refused e) = refuses e
 
 -- a writer checks that the text is printable, and then that it has at most 255 bytes
 abbrev pub text_kind : Form
