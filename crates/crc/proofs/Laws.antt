@@ -1,7 +1,8 @@
 -- Both checks of bytes that come in two parts, and how large they are.
 -- Assumes nothing.
 use Rattle.std.proofs.Common.{◌≡◌, ℕ, zero, suc, ◌+◌, ◌*◌, ◌%◌, ◌<◌, Bool, true, false, cond, ltb, List, [], ◌∷◌, ◌++◌, ◌∙◌, arith}
-use mathlib.Core.List.{foldl, foldl-append}
+use Rattle.std.specs.List.{fold}
+use Rattle.std.proofs.lemmas.List.Sums.{fold-append}
 use lib.Bits.{bit_xor, xor_lt}
 use Rattle.crc.specs.Crc.{polynomial, shifted, crc_bit, crc_bits, crc_byte, crc_of}
 use Rattle.crc.specs.Sum.{sum_of}
@@ -11,12 +12,17 @@ pub sum_mod : (s : List ℕ) (a b : ℕ) → a % 256 ≡ b % 256 → sum_of a s 
 sum_mod [] a b e = e
 sum_mod (x ∷ s) a b e = sum_mod s (a + x) (b + x) (omega arith)
 
+-- each step may wrap
+pub sum_wraps : (s : List ℕ) (start : ℕ) → start < 256 → fold (λ a b. (a + b) % 256) start s ≡ sum_of start s
+sum_wraps [] start h = omega arith
+sum_wraps (b ∷ s) start h = sum_wraps s ((start + b) % 256) (omega arith) ∙ sum_mod s ((start + b) % 256) (start + b) (omega arith)
+
 pub sum_parts : (start : ℕ) (s t : List ℕ) → sum_of (sum_of start s) t ≡ sum_of start (s ++ t)
 sum_parts start s t =
-    sum_mod t (sum_of start s) (foldl ◌+◌ start s) (omega arith) ∙ rw (foldl-append)
+    sum_mod t (sum_of start s) (fold ◌+◌ start s) (omega arith) ∙ rw (fold-append)
 
 pub crc_parts : (start : ℕ) (s t : List ℕ) → crc_of (crc_of start s) t ≡ crc_of start (s ++ t)
-crc_parts start s t = rw (foldl-append)
+crc_parts start s t = rw (fold-append)
 
 -- a CRC has 16 bits
 bit_lt : (c : ℕ) → crc_bit c < 65536

@@ -1,3 +1,2 @@
 pub mod Known
 pub mod Laws
-pub mod Walk

@@ -1,6 +1,5 @@
 -- The CRC of a frame (R102.5): 16 bits, polynomial 0x1021, no reflection, no final inversion, bit by bit, from any start.
-use Rattle.std.specs.Prelude.{ℕ, zero, suc, ◌*◌, ◌%◌, cond, List, bit_xor, nat_lt}
-use mathlib.Core.List.{foldl}
+use Rattle.std.specs.Prelude.{ℕ, zero, suc, ◌*◌, ◌%◌, cond, List, bit_xor, nat_lt, fold}
 
 abbrev pub polynomial : ℕ
 polynomial = 0x1021
@@ -24,4 +23,4 @@ crc_byte c b = crc_bits 8 (bit_xor c (b * 256))
 
 -- all bytes, in order
 abbrev pub crc_of : ℕ → List ℕ → ℕ
-crc_of start s = foldl crc_byte start s
+crc_of start s = fold crc_byte start s

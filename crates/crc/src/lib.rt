@@ -22,43 +22,28 @@ fn crc_byte(c: u16, b: u8) -> u16
     ensures { result ≡ crc_byte c b }
 {
     let mut r = c ^ ((b as u16) << 8);
-    let mut k: usize = 0;
-    while k < 8 {
+    for _ in 0..u8::BITS {
         r = crc_bit(r);
-        k += 1;
     }
     r
 }
 
 // The CRC of all bytes, bit by bit.
-#[tactic(auto, using(crate::proofs::Walk::walk_more, crate::proofs::Walk::walk_done))]
 pub fn crc(start: u16, bytes: &[u8]) -> u16
     ensures { result ≡ crc_of start bytes.now }
 {
-    let mut c = start;
-    let mut i = 0;
-    while i < bytes.len() {
-        c = crc_byte(c, bytes[i]);
-        i += 1;
-    }
-    c
+    bytes.iter().fold(start, |c, b| crc_byte(c, *b))
 }
 
 // The sum of all bytes, which wraps at 256.
 pub fn sum(start: u8, bytes: &[u8]) -> u8
     ensures { result ≡ sum_of start bytes.now }
 {
-    let mut a = start;
-    let mut i = 0;
-    while i < bytes.len() {
-        a = std::num::wrapping_add_u8(a, bytes[i]);
-        i += 1;
-    }
-    a
+    bytes.iter().fold(start, |a, b| a.wrapping_add(*b))
 }
 
 pub fn twos_complement(a: u8) -> u8
     ensures { result ≡ twos_complement a }
 {
-    std::num::wrapping_sub_u8(0, a)
+    0u8.wrapping_sub(a)
 }

@@ -4,20 +4,20 @@ use Rattle.std.specs.Prelude.{bit_xor}
 use Rattle.crc.specs.Crc.{crc_bits, crc_byte}
 use Rattle.crc.proofs.crc_byte.Goals as goal
 
-pub loop-k-init : goal.loop-k-init
+pub loop-init : goal.loop-init
 unfolding crc_byte
-loop-k-init c =
+loop-init c =
     let e : c.args.b * 256 % 65536 ≡ c.args.b * 256 = omega arith in
-    (omega arith, ap (λ (x : ℕ). crc_bits 8 (bit_xor c.args.c x)) e)
+    ap (λ (x : ℕ). crc_bits 8 (bit_xor c.args.c x)) e
 
-pub loop-k-preserved : goal.loop-k-preserved
+pub loop-preserved : goal.loop-preserved
 unfolding crc_bits
-loop-k-preserved c =
-    let e : 8 - c.loop-k.k ≡ suc (8 - (c.loop-k.k + 1)) = omega arith in
-    (omega arith, rw c.crc_bit-r.ensures (rw e at c.loop-k.invariant.1))
+loop-preserved c =
+    let e : 8 - c.loop.counter ≡ suc (8 - (c.loop.counter + 1)) = omega arith in
+    rw c.crc_bit-r.ensures (rw e at c.loop.invariant)
 
 pub returns : goal.returns
 unfolding crc_bits
 returns c =
-    let z : 8 - c.loop-k.k ≡ 0 = omega arith in
-    rw z at c.loop-k.invariant.1
+    let z : 8 - c.loop.counter ≡ 0 = omega arith in
+    rw z at c.loop.invariant
