@@ -12,7 +12,7 @@ use Rattle.payload_util.specs.Outcome.{outcome}
 use Rattle.payload_util.proofs.Guards.{check_pass, gives_pass}
 use Rattle.osdp.specs.declared.Side.{Side}
 use Rattle.osdp.specs.declared.Kind.{Kind}
-use Rattle.osdp.specs.Kinds.{form, kind_of, ◌then◌}
+use Rattle.osdp.specs.Kinds.{kind_of, ◌then◌}
 use Rattle.osdp.specs.ByCode.{longest, not_too_long, kind_for}
 
 module _ (side : Side) (c : ℕ) (p : List ℕ) (k : Kind) where

@@ -18,7 +18,6 @@ use Rattle.osdp.proofs.Laws.{own_code, OnSide, kinds_on_side}
 use Rattle.osdp.proofs.Lookups.{by_kind}
 use Rattle.std.specs.Prelude.{Ok, Err}
 use Rattle.payload_util.specs.Refusals.{Outcome, Guard}
-use Rattle.payload_util.specs.declared.Row.TheVariants.{NotCarried}
 
 own : (k : Kind) (side : Side) (b : ℕ) → code (form k) ≡ b → kind_of side b ≡ Ok k → OwnCode k side b
 own k side b is named = (

@@ -21,7 +21,7 @@ use Rattle.osdp.specs.declared.Kind.{Kind}
 use Rattle.osdp.specs.declared.Kind.TheVariants.{Nak}
 use Rattle.osdp.specs.Kinds.{form, kind_of}
 use Rattle.payload_util.specs.declared.Row.TheVariants.{Folded}
-use Rattle.osdp.specs.ByCode.{longest, not_too_long, kind_for, check, strict, normalise}
+use Rattle.osdp.specs.ByCode.{kind_for, check, strict, normalise}
 use Rattle.osdp.specs.Signed.{Short}
 use Rattle.osdp.specs.Promises.{LosesNothing, Promises}
 use Rattle.osdp.proofs.Laws.{law, uncut, no_limits}
