@@ -43,7 +43,7 @@ loop-k-preserved g c =
     let all = room g (goal.at.loop-k-preserved g c).In_ok-needed in
     turn k.bytes k.WIRE_LEN g.met.Self.ListRecord.all_bytes (code g.Self.Payload.form) c.args.records.now c.args.out.now c.index-records-k.result
     c.loop-k.k all c.loop-k-test.true c.loop-k.invariant
-    (c.encode_at.ensures ∙ rw (c.WIRE_LEN-in-loop-k.ensures, ← c.index-records-k.is))
+    (rw (c.WIRE_LEN-in-loop-k.ensures, c.index-records-k.is) at c.encode_at.ensures)
 
 pub returns : goal.returns
 returns g c =
