@@ -1,19 +1,23 @@
 -- The laws of OUT's codes, and OUT's law.
 -- Assumes nothing.
-use mathlib.Core.Path.{◌≡◌, refl, ap}
-use mathlib.Core.List.{List, [], ◌∷◌}
-use Prim.Native.Nat.{ℕ, zero, suc, ◌+◌, ◌*◌, ◌/◌, ◌≤◌, ◌<◌}
+use mathlib.Core.Path.{◌≡◌, refl, sym, ap, ap₂, ◌∙◌}
+use mathlib.Core.Bool.{Bool, true, false}
+use mathlib.Core.List.{List, [], ◌∷◌, ◌++◌, append-nil}
+use Prim.Native.Nat.{ℕ, zero, suc, ◌+◌, ◌*◌, ◌/◌, ◌≤◌, ◌<◌, min}
 use native.Mathlib.Nat.{mod-add-div}
 use native.Mathlib.Omega.{arith}
-use lib.ListN.{length}
+use lib.ListN.{get_or-append, length-append, length}
 use lib.Seq.{get_or-drop}
+use borrow.Author.Tests.{leb-true, leb-false}
+use lib.Dec.{leb}
+use Rattle.std.proofs.lemmas.List.{nil_from_length, get_or-append-add}
 use Rattle.payload_util.specs.Bytes.{byte_at, flat}
-use Rattle.payload_util.specs.Refusals.{in_order, Pass, refusal}
+use Rattle.payload_util.specs.Refusals.{◌also◌, in_order, Guard, Pass, refusal}
 use Rattle.payload_util.specs.Guards.{positive_multiple_of}
 use Rattle.payload_util.specs.Outcome.{guard_of, value_or}
 use Rattle.payload_util.specs.Form.{check}
 use Rattle.payload_util.proofs.Guards.{also_pass, multiple_pass, pass_multiple}
-use Rattle.payload_util.proofs.InOrder.{all_pass, pass_all}
+use Rattle.payload_util.proofs.InOrder.{all_pass, pass_all, in_two, shifted, also_none}
 use Rattle.payload_util.proofs.Table.{exact, exact_value}
 use Rattle.payload_util.proofs.Words.{low_byte, high_byte}
 use Rattle.payload_util.proofs.Parts.{by_head}
@@ -59,14 +63,67 @@ low_known (suc (suc (suc (suc (suc zero))))) h = refl
 low_known (suc (suc (suc (suc (suc (suc zero)))))) h = refl
 low_known (suc (suc (suc (suc (suc (suc (suc b))))))) h = absurd (omega arith)
 
-pub four_pass : (p : List ℕ) (k : ℕ) → byte_at p (4 * k + 1) ≤ 6 → byte_at p (4 * k + 5) ≤ 6 → byte_at p (4 * k + 9) ≤ 6
-    → byte_at p (4 * k + 13) ≤ 6 → in_order (code_known p) k 4 ≡ Pass
+-- ---- the codes of records, part by part
+
+same_codes : (f g : ℕ → Guard) (i n : ℕ) → ((k : ℕ) → k < i + n → f k ≡ g k) → in_order f i n ≡ in_order g i n
 unfolding in_order
-four_pass p k a b c d =
-    let second : 4 * suc k + 1 ≡ 4 * k + 5 = omega arith in
-    let third : 4 * suc (suc k) + 1 ≡ 4 * k + 9 = omega arith in
-    let fourth : 4 * suc (suc (suc k)) + 1 ≡ 4 * k + 13 = omega arith in
-    rw (second, third, fourth, low_known _ a, low_known _ b, low_known _ c, low_known _ d)
+same_codes f g i zero h = refl
+same_codes f g i (suc n) h = ap₂ {C = Guard} (λ a b. a also b) (h i (omega arith)) (same_codes f g (suc i) n (λ k lt. h k (omega arith)))
+
+-- whole records, and then the others
+pub codes_split : (m : ℕ) (a b : List ℕ) → length a ≡ 4 * m → codes_known (a ++ b) ≡ (codes_known a also codes_known b)
+unfolding codes_known
+codes_split m a b e =
+    let all : length (a ++ b) / 4 ≡ m + length b / 4 = simp length-append (omega arith) in
+    let front : length a / 4 ≡ m = omega arith in
+    let z : 0 + m ≡ m + 0 = omega arith in
+    rw (all, front) (in_two (code_known (a ++ b)) 0 m (length b / 4)
+    ∙ ap₂ {C = Guard} (λ x y. x also y)
+    (same_codes (code_known (a ++ b)) (code_known a) 0 m (λ k lt. ap (λ (c : ℕ). guard_of (read_output_code c)) (get_or-append a b 0 (4 * k + 1) (omega arith))))
+    (ap (λ (i : ℕ). in_order (code_known (a ++ b)) i (length b / 4)) z ∙ shifted (code_known (a ++ b)) m 0 (length b / 4)
+    ∙ same_codes (λ k. code_known (a ++ b) (m + k)) (code_known b) 0 (length b / 4) (λ k lt.
+    let at : 4 * (m + k) + 1 ≡ length a + (4 * k + 1) = omega arith in
+    ap (λ (c : ℕ). guard_of (read_output_code c)) (ap (λ (i : ℕ). byte_at (a ++ b) i) at ∙ get_or-append-add a b (4 * k + 1) 0))))
+
+-- nothing is left after the last part
+pub codes_of_part : (x r s : List ℕ) → s ≡ x ++ r → length x ≡ min 16 (length s) → codes_known s ≡ (codes_known x also codes_known r)
+unfolding codes_known in_order
+codes_of_part x r s e l = go (leb 16 (length s)) refl
+  where
+    total : length s ≡ length x + length r
+    total = ap length e ∙ length-append x r
+
+    go : (t : Bool) → leb 16 (length s) ≡ t → codes_known s ≡ (codes_known x also codes_known r)
+    go true g = ap codes_known e ∙ codes_split 4 x r (omega (arith, leb-true _ _ g))
+    go false g =
+        let none : length r ≡ 0 = omega (arith, total, leb-false _ _ g) in
+        let nil : r ≡ [] = nil_from_length r none in
+        ap codes_known (e ∙ ap (λ (l : List ℕ). x ++ l) nil ∙ append-nil x) ∙ sym (also_none (codes_known x))
+        ∙ ap (λ (l : List ℕ). codes_known x also codes_known l) (sym nil)
+
+one_code : (x : List ℕ) → length x ≡ 4 → codes_known x ≡ guard_of (read_output_code (byte_at x 1))
+unfolding codes_known in_order
+one_code x l =
+    let n : length x / 4 ≡ 1 = omega arith in
+    rw n (also_none (guard_of (read_output_code (byte_at x 1))))
+
+-- one record, and then the others
+pub codes_of_record : (x r s : List ℕ) → s ≡ x ++ r → length x ≡ 4
+    → codes_known s ≡ (guard_of (read_output_code (byte_at x 1)) also codes_known r)
+codes_of_record x r s e l = ap codes_known e ∙ codes_split 1 x r (omega arith) ∙ ap (λ (g : Guard). g also codes_known r) (one_code x l)
+
+-- no record is left
+pub no_codes : (s : List ℕ) → length s < 4 → codes_known s ≡ Pass
+unfolding codes_known in_order
+no_codes s h =
+    let n : length s / 4 ≡ 0 = omega arith in
+    rw n
+
+pub four_pass : (p : List ℕ) → length p ≡ 16 → byte_at p 1 ≤ 6 → byte_at p 5 ≤ 6 → byte_at p 9 ≤ 6 → byte_at p 13 ≤ 6 → codes_known p ≡ Pass
+unfolding in_order codes_known
+four_pass p l a b c d =
+    let e : length p / 4 ≡ 4 = omega arith in
+    rw e (rw (low_known _ a, low_known _ b, low_known _ c, low_known _ d))
 
 module _ (p : List ℕ) (g : check outputs p ≡ Pass) where
   out_blocks : (length p ≡ length p / 4 * 4) × (0 < length p / 4)

@@ -1,10 +1,10 @@
 // osdp_OUT (0x68), output control: a list of records, one for each output to drive.
 #![tactic(auto)]
 
-ghost use Rattle.std.specs.Prelude.{true, ◌≡◌, ◌+◌, ◌*◌, ◌/◌, ◌≤◌, length, drop, refl};
+ghost use Rattle.std.specs.Prelude.{true, ◌≡◌, ◌≤◌, length, drop, refl};
 ghost use Rattle.std.proofs.Common.{arith};
-ghost use Rattle.payload_util.specs.Prelude.{Pass, in_order};
-ghost use Rattle.output.specs.Output.{output_byte, read_output_code, code_known, codes_known, out_of, out_with, read_out_at, out_bytes, outputs};
+ghost use Rattle.payload_util.specs.Prelude.{Pass};
+ghost use Rattle.output.specs.Output.{output_byte, read_output_code, codes_known, out_of, out_with, read_out_at, out_bytes, outputs};
 
 use lists::{ListRecord, put_at};
 use payload_util::{
@@ -136,37 +136,44 @@ impl OutputRecord {
         Ok(Self::with_code(part, OutputControlCode::from_byte(part[1])?))
     }
 
-    // Says yes only if the codes of the four records from an index on are known.
-    fn four_known(p: &[u8], index: usize) -> bool
-        requires { index + 4 ≤ length p.now / 4 }
-        ensures { result ≡ true → in_order (code_known p.now) index 4 ≡ Pass }
+    // Says yes only if these are four records whose codes are known.
+    fn four_known(p: &[u8]) -> bool
+        ensures { result ≡ true → codes_known p.now ≡ Pass }
     {
-        let start = Self::WIRE_LEN * index;
-        if OutputControlCode::HIGHEST < p[start + 1] {
+        if p.len() != 4 * Self::WIRE_LEN {
             return false;
         }
-        if OutputControlCode::HIGHEST < p[start + 5] {
+        if OutputControlCode::HIGHEST < p[1] {
             return false;
         }
-        if OutputControlCode::HIGHEST < p[start + 9] {
+        if OutputControlCode::HIGHEST < p[5] {
             return false;
         }
-        p[start + 13] <= OutputControlCode::HIGHEST
+        if OutputControlCode::HIGHEST < p[9] {
+            return false;
+        }
+        p[13] <= OutputControlCode::HIGHEST
     }
 
-    // Checks the codes of all records, in order: four at a time while they are known, else one.
+    // Checks the codes of at most four records, in order.
+    fn check_few(p: &[u8]) -> Result<(), Refusal>
+        ensures { result ≡ codes_known p.now }
+    {
+        if Self::four_known(p) {
+            return Ok(());
+        }
+        for record in p.chunks_exact(Self::WIRE_LEN) {
+            OutputControlCode::from_byte(record[1])?;
+        }
+        Ok(())
+    }
+
+    // Checks the codes of all records, in order.
     fn check_codes(p: &[u8]) -> Result<(), Refusal>
         ensures { result ≡ codes_known p.now }
     {
-        let n = p.len() / Self::WIRE_LEN;
-        let mut k: usize = 0;
-        while k < n {
-            if 4 <= n - k && Self::four_known(p, k) {
-                k += 4;
-            } else {
-                OutputControlCode::from_byte(p[Self::WIRE_LEN * k + 1])?;
-                k += 1;
-            }
+        for records in p.chunks(4 * Self::WIRE_LEN) {
+            Self::check_few(records)?;
         }
         Ok(())
     }

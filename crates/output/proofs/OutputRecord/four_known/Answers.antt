@@ -5,4 +5,4 @@ use Rattle.output.proofs.Laws.{four_pass}
 use Rattle.output.proofs.OutputRecord.four_known.Goals as goal
 
 pub returns : goal.returns
-returns c low = four_pass c.args.p.now c.args.index (omega arith) (omega arith) (omega arith) (leb-true _ _ low)
+returns c low = four_pass c.args.p.now (omega arith) (omega arith) (omega arith) (omega arith) (leb-true _ _ low)
