@@ -7,22 +7,26 @@ ghost use Rattle.plain.specs.Number.{acu_rx_size, keep_active};
 ghost use Rattle.bench_read.specs.Answer.{Answers};
 
 use crate::number::{answer, refused, sum};
-use plain::acu_rx_size::{AcuRxSize, AcuRxSizeRead};
-use plain::com::{Com, ComRead};
-use plain::comset::{ComSet, ComSetRead};
-use plain::keep_active::{KeepActive, KeepActiveRead};
-use plain::lstat::{LStatR, LStatRRead};
-use plain::pdid::{PdId, PdIdRead};
-use std::num::wrapping_add_u64;
-
-fn with_number(bytes: u64, number: u32) -> u64 {
-    wrapping_add_u64(bytes, number as u64)
-}
+use payload_util::Record;
+use plain::acu_rx_size::AcuRxSize;
+use plain::com::Com;
+use plain::comset::ComSet;
+use plain::keep_active::KeepActive;
+use plain::lstat::LStatR;
+use plain::pdid::PdId;
 
 fn identity(d: PdId) -> u64 {
-    let device = sum(d.oui_0, d.oui_1, d.oui_2, d.model, d.version);
-    let firmware = sum(d.firmware_major, d.firmware_minor, d.firmware_build, 0, 0);
-    with_number(wrapping_add_u64(device, firmware), d.serial)
+    let bytes = sum(&[
+        d.oui_0,
+        d.oui_1,
+        d.oui_2,
+        d.model,
+        d.version,
+        d.firmware_major,
+        d.firmware_minor,
+        d.firmware_build,
+    ]);
+    bytes.wrapping_add(d.serial as u64)
 }
 
 #[unsafe(no_mangle)]
@@ -30,8 +34,8 @@ pub extern "C" fn bench_read_comset(p: &[u8]) -> i32
     ensures { Answers (check com_set p.now) result }
 {
     match ComSet::decode(p) {
-        ComSetRead::Read(c) => answer(with_number(c.address as u64, c.baud)),
-        ComSetRead::Refused(e) => refused(e),
+        Ok(c) => answer(c.address as u64 + c.baud as u64),
+        Err(e) => refused(e),
     }
 }
 
@@ -40,8 +44,8 @@ pub extern "C" fn bench_read_com(p: &[u8]) -> i32
     ensures { Answers (check com_reply p.now) result }
 {
     match Com::decode(p) {
-        ComRead::Read(c) => answer(with_number(c.address as u64, c.baud)),
-        ComRead::Refused(e) => refused(e),
+        Ok(c) => answer(c.address as u64 + c.baud as u64),
+        Err(e) => refused(e),
     }
 }
 
@@ -50,8 +54,8 @@ pub extern "C" fn bench_read_pdid(p: &[u8]) -> i32
     ensures { Answers (check pd_id p.now) result }
 {
     match PdId::decode(p) {
-        PdIdRead::Read(d) => answer(identity(d)),
-        PdIdRead::Refused(e) => refused(e),
+        Ok(d) => answer(identity(d)),
+        Err(e) => refused(e),
     }
 }
 
@@ -60,8 +64,8 @@ pub extern "C" fn bench_read_lstatr(p: &[u8]) -> i32
     ensures { Answers (check l_stat_r p.now) result }
 {
     match LStatR::decode(p) {
-        LStatRRead::Read(l) => answer(sum(l.tamper, l.power, 0, 0, 0)),
-        LStatRRead::Refused(e) => refused(e),
+        Ok(l) => answer(sum(&[l.tamper, l.power])),
+        Err(e) => refused(e),
     }
 }
 
@@ -70,8 +74,8 @@ pub extern "C" fn bench_read_acurxsize(p: &[u8]) -> i32
     ensures { Answers (check acu_rx_size p.now) result }
 {
     match AcuRxSize::decode(p) {
-        AcuRxSizeRead::Read(a) => answer(a.max_size as u64),
-        AcuRxSizeRead::Refused(e) => refused(e),
+        Ok(a) => answer(a.max_size as u64),
+        Err(e) => refused(e),
     }
 }
 
@@ -80,7 +84,7 @@ pub extern "C" fn bench_read_keepactive(p: &[u8]) -> i32
     ensures { Answers (check keep_active p.now) result }
 {
     match KeepActive::decode(p) {
-        KeepActiveRead::Read(k) => answer(k.duration_ms as u64),
-        KeepActiveRead::Refused(e) => refused(e),
+        Ok(k) => answer(k.duration_ms as u64),
+        Err(e) => refused(e),
     }
 }

@@ -1,47 +1,41 @@
 // Frames: a frame that is read, one that is written, and the CRC alone.
-ghost use Rattle.std.specs.Prelude.{pos, ◌≡◌, ◌≤◌};
+ghost use Rattle.std.specs.Prelude.{◌≡◌};
 ghost use Rattle.crc.specs.Crc.{crc_of};
 ghost use Rattle.frame.specs.Examples.{frame};
 ghost use Rattle.frame.specs.Frame.{check_frame, write_frame};
-ghost use Rattle.osdp.specs.ByCode.{longest};
 ghost use Rattle.osdp.specs.Signed.{count_of, effect_of, Short};
 ghost use Rattle.bench_read.specs.Answer.{Answers};
 
 use crate::number::{refused, sum, tailed};
-use frame::{Frame, FrameRead};
-use payload_util::Written;
-
-fn flag(is_set: bool) -> u8 {
-    if is_set { 1 } else { 0 }
-}
+use frame::Frame;
+use payload_util::Refusal;
 
 #[unsafe(no_mangle)]
 pub extern "C" fn bench_read_frame(f: &[u8]) -> i32
     ensures { Answers (check_frame f.now) result }
 {
     match Frame::decode(f) {
-        FrameRead::Read(r) => {
-            let n = sum(r.address, flag(r.reply), r.sequence, flag(r.crc), r.code);
+        Ok(r) => {
+            let n = sum(&[
+                r.address,
+                u8::from(r.reply),
+                r.sequence,
+                u8::from(r.crc),
+                r.code,
+            ]);
             tailed(n, r.payload_in(f))
         }
-        FrameRead::Refused(e) => refused(e),
+        Err(e) => refused(e),
     }
 }
 
-fn signed(n: usize) -> i32
-    requires { n ≤ longest }
-    ensures { result ≡ pos n }
-{
-    n as i32
-}
-
-fn count_of(written: Written) -> i32
+fn count_of(written: Result<usize, Refusal>) -> i32
     requires { Short written }
     ensures { result ≡ count_of written }
 {
     match written {
-        Written::Wrote(n) => signed(n),
-        Written::Refused(e) => refused(e),
+        Ok(n) => n as i32,
+        Err(e) => refused(e),
     }
 }
 
