@@ -64,9 +64,9 @@ def plain(text, enum):
     text = " ".join(text.split()).rstrip(",")
     if re.fullmatch(r"0x[0-9A-Fa-f]+|\d+", text):
         return f"0x{int(text, 16 if 'x' in text else 10):02X}"
-    if m := re.fullmatch(rf"(?:{enum}|Self)::(\w+)|{enum}Read::Read\( ?{enum}::(\w+),? ?\)", text):
+    if m := re.fullmatch(rf"(?:{enum}|Self)::(\w+)|Ok\( ?(?:{enum}|Self)::(\w+),? ?\)", text):
         return m[1] or m[2]
-    if re.match(rf"{enum}Read::Refused\(|(?:\{{ )?return Err\(", text):
+    if re.match(r"(?:(?:\{ )?return )?Err\(", text):
         return "refused"
     return OTHER if re.fullmatch(r"_|[a-z]\w*", text) else f"'{text}'"
 
@@ -77,15 +77,21 @@ def arms(text, enum, name):
     return [(plain(left, enum), plain(right, enum)) for left, right in zip(found[::2], found[1::2])]
 
 
+def numbered(text, enum):
+    """Name and byte of each variant, if as_byte gives the variant's number."""
+    found = [v.partition(" = ") for v in variants(text, enum)]
+    by_number = re.search(r"\{\s*self as u8\s*\}", function(text, enum, "as_byte"))
+    return [(name, plain(number, enum)) for name, _, number in found] if by_number else []
+
+
 def original(path, enum):
     """Name and byte of each variant of the Rust, and what its from_byte answers to other bytes."""
     text = source(path)
-    found = [re.fullmatch(r"(\w+) = (0x[0-9A-Fa-f]+|\d+)", v) for v in variants(text, enum)]
-    names = {plain(m[2], enum): m[1] for m in found if m}
+    names = {byte: name for name, byte in numbered(text, enum)}
     reads = dict(arms(text, enum, "from_byte"))
     other = reads.pop(OTHER, None)
-    same = names and len(names) == len(found) and other and dict.fromkeys(names, other) | reads == names
-    if not same or not re.search(r"\{\s*self as u8\s*\}", function(text, enum, "as_byte")):
+    same = names and len(names) == len(variants(text, enum)) and other and dict.fromkeys(names, other) | reads == names
+    if not same:
         sys.exit(f"{path}: no {enum}, or its from_byte and as_byte do not go by its numbers")
     return [(name, byte) for byte, name in names.items()], other
 
@@ -104,7 +110,7 @@ def definition(crate, text, enum):
     """The table with its answer to other bytes, and the list of codes; the contracts of from_byte and as_byte name the definition."""
     reader, table = (re.search(rf"≡ (\w+) {of}\s*\}}", function(text, enum, name)) for name, of in (("from_byte", "b"), ("as_byte", "self")))
     for spec in map(source, sorted(crate.glob("specs/**/*.antt"))) if reader and table else []:
-        named = re.search(rf"^{reader[1]} b = named {table[1]} (?:gives \(refuses .*\)|\(λ c\. c\) (\w+)) (\w+) b$", spec, re.M)
+        named = re.search(rf"^{reader[1]} b = named {table[1]} (?:Ok \(Err .*\)|\(λ c\. c\) (\w+)) (\w+) b$", spec, re.M)
         if named:
             imported = [path for item in re.findall(r"^use (\S[^\n]*(?:\n[ \t}][^\n]*)*)", spec, re.M) for path in paths(item)]
             variants_of = (path.partition(f".declared.{enum}.TheVariants.")[2].split() for path in imported)
@@ -153,9 +159,9 @@ def of_enum(root, code, enum, names, other):
     compared = [
         ("definition", names + [(OTHER, other)], table),
         ("list", order, places(listed)),
-        ("enum", order, places(variants(text, enum))),
+        ("enum", order, places(v.partition(" = ")[0] for v in variants(text, enum))),
         ("from_byte", [(byte, name) for name, byte in names] + [(OTHER, other)], arms(text, enum, "from_byte")),
-        ("as_byte", names, arms(text, enum, "as_byte")),
+        ("as_byte", names, numbered(text, enum)),
     ]
     return [d for place, wanted, found in compared for d in differences(enum, place, wanted, found)]
 
@@ -169,7 +175,7 @@ def listed(path):
 
 def of_kinds(root, code, codes):
     """The differences of the kinds that have a CODE or a row in kinds.txt, and how many kinds there are."""
-    types = [found for text in code.values() for found in re.findall(r"^impl (\w+) \{(.*?)^\}", text, re.M | re.S)]
+    types = [found for text in code.values() for found in re.findall(r"^impl (?:\w+ for )?(\w+) \{(.*?)^\}", text, re.M | re.S)]
     constants = [(KIND_OF.get(name, name).upper(), plain(byte, name)) for name, body in types for byte in re.findall(r"const CODE: u8 = (.*);", body)]
     lines = [line.split() for line in (root / KINDS).read_text(encoding="utf-8").splitlines() if line and line[0] != "#"]
     rows = [(name, f"{side} 0x{byte}") for name, side, byte, *_ in lines]
@@ -193,30 +199,38 @@ def compare(root, rust, inspect):
     return found + more, count, kinds
 
 
-def trials(rust):
-    """An enum, the places where differences have to be found, and for each place the files, the start of the lines and the words to exchange."""
+def as_written(root, enum):
+    """The number of each variant, as the code has it."""
+    return dict(v.split(" = ") for path in root.glob(CODE) for v in variants(source(path), enum))
+
+
+def trials(root, rust):
+    """An enum, the places where differences have to be found, and for each place what is edited: the files, the start of the lines and the words to
+    exchange. An enum's place is exchanged with its number."""
     yield "all", {}
     for enum, file, _, label in ENUMS:
         a, b = (name for name, _ in original(rust / file, enum)[0][1:3])
+        written, line = as_written(root, enum), rf"    (?:{a}|{b}) = "
+        as_byte = (CODE, line, written[a], written[b])
         edits = {
-            "definition": (SPECS, rf"\w+ (?:{a}|{b}) = ", a, b),
-            "list": (SPECS, r"(?!use ).*∷ ", a, b),
-            "enum": (CODE, rf"    (?:{a}|{b}),", a, b),
-            "from_byte": (CODE, rf" +\w+ => .*{enum}::(?:{a}|{b})\b", a, b),
-            "as_byte": (CODE, rf" +{enum}::(?:{a}|{b}) => ", a, b),
-            "inspect": (None, "", a, b) if label else (None, "", a.upper(), b.upper()),
+            "definition": [(SPECS, rf"\w+ (?:{a}|{b}) = ", a, b)],
+            "list": [(SPECS, r"(?!use ).*∷ ", a, b)],
+            "enum": [(CODE, line, a, b), as_byte],
+            "from_byte": [(CODE, rf" +\w+ => .*(?:{enum}|Self)::(?:{a}|{b})\b", a, b)],
+            "as_byte": [as_byte],
+            "inspect": [(None, "", a, b) if label else (None, "", a.upper(), b.upper())],
         }
         for exchanged in [[place] for place in edits] + [["definition", "from_byte", "as_byte"], list(edits)]:
             yield enum, {place: edits[place] for place in exchanged}
-    yield "kind", {"CODE": (CODE, " +pub const CODE: u8 = ", "0x73", "0x74")}
-    yield "kind", {"kinds.txt": (KINDS, "(?:LED|OUT) ", "LED", "OUT")}
-    yield "kind", {"osdp.h": (HEADER, r" \* ", "LED", "OUT")}
-    yield "kind", {"README.md": (README, " +replies", "RAW", "FMT")}
+    yield "kind", {"CODE": [(CODE, " +(?:pub )?const CODE: u8 = ", "0x73", "0x74")]}
+    yield "kind", {"kinds.txt": [(KINDS, "(?:LED|OUT) ", "LED", "OUT")]}
+    yield "kind", {"osdp.h": [(HEADER, r" \* ", "LED", "OUT")]}
+    yield "kind", {"README.md": [(README, " +replies", "RAW", "FMT")]}
 
 
 def edited(text, files, edits):
     """The text after the edits of these files."""
-    for _, begins, a, b in (edit for edit in edits if edit[0] == files):
+    for _, begins, a, b in (edit for of_place in edits for edit in of_place if edit[0] == files):
         exchanged = re.compile(rf"\b(?:{a}|{b})\b")
         text = "".join(exchanged.sub(lambda m: b if m[0] == a else a, line) if re.match(begins, line) else line for line in text.splitlines(True))
     return text
@@ -225,7 +239,7 @@ def edited(text, files, edits):
 def selftest(root, rust, inspect):
     """How many trials find differences in other places than expected; later trials leave out the differences of the untouched copy."""
     before, wrong, count = set(), 0, 0
-    for enum, edits in trials(rust):
+    for enum, edits in trials(root, rust):
         with tempfile.TemporaryDirectory() as folder:
             for files, path in ((files, path) for files in (SPECS, CODE, KINDS, HEADER, README) for path in root.glob(files)):
                 copy = Path(folder) / path.relative_to(root)
