@@ -2,9 +2,10 @@
 """The public calls of the library, and which of them a run reaches, as far as the text shows: calls.py
 
 The library is the crates of crates.txt from the first to osdp_c. A run reaches a call if main of vectors or of inspect does, directly or through
-other calls, or one of the calls for C of osdp_c, which the comparison makes. A call is `Type::name(`, `module::name(` or `name(`, taken apart by the
+other calls, or one of the calls for C of osdp_c, which the comparison makes. A call is `Type::name`, `module::name` or `name(`, taken apart by the
 uses of its file. `.name(` counts for the types that the calling function names or that its calls give, and those that these hold, unless there are
-more such types than places where the method is called: what is doubtful counts as not reached.
+more such types than places where the method is called: what is doubtful counts as not reached. A type that has a trait has what the trait itself does,
+and another name of a type has all that the type has.
 Prints the calls that no run reaches, and those that nobody calls.
 """
 import re
@@ -15,18 +16,27 @@ top = Path(__file__).resolve().parent.parent
 PROGRAMS = ("vectors::main", "inspect::main")
 LAST = "osdp_c"
 HIDDEN = re.compile(r"//[^\n]*|b?\"(?:\\.|[^\"\\])*\"|b?'(?:\\.|[^'\\])'", re.S)  # comments, strings, characters
-FUNCTION = re.compile(r"^( *)(pub(?:\(crate\))? )?(extern +)?fn (\w+)", re.M)
+FUNCTION = re.compile(r"^( *)(pub(?:\(crate\))? )?(?:final )?(extern +)?fn (\w+)", re.M)
+DECLARED = re.compile(r"(?:[^{;\[]|\[[^\]]*\])*;")  # a function of a trait that has no body
+# what a function is in: the trait of an impl, if it is of one, and the type; or a trait
+OWNER = re.compile(r"^(?:impl(?:<[^>]*>)? (?:(\w+)\S* for )?(\w+)|(pub(?:\(crate\))? )?trait (\w+))", re.M)
+ALIAS = re.compile(r"^pub type (\w+) = (\w+)", re.M)
 USE = re.compile(r"^(?:pub )?use ([^;]*);", re.M)
 STRUCT = re.compile(r"^(?:pub(?:\(crate\))? )?(?:struct|enum) (\w+)[^{;]*\{(.*?)^\}", re.M | re.S)
 TYPE = r"\b[A-Z]\w*\b"
 
 
 class Function:
-    def __init__(self, place, name, text, found, owner):
+    def __init__(self, place, name, text, owner, trait, is_public, is_for_c):
+        """The owner is a type or a trait; the trait is that of its impl, or the owner itself."""
         self.path, self.place, self.owner, self.text = f"{owner or place}::{name}", place, owner, text
-        self.is_public, self.is_for_c = found[2] == "pub ", bool(found[3])
+        self.name, self.trait, self.is_public, self.is_for_c = name, trait, is_public, is_for_c
         self.has_self = bool(re.match(r"[^(]*\(\s*(?:mut |&(?:'\w+ )?(?:mut )?)?self\b", text))
         self.gives = re.findall(TYPE, re.search(r"\)(?:\s*->([^{\n]*))?", text)[1] or "") if ")" in text else []
+
+    def of(self, owner):
+        """The same function under another type: one that has the trait, or another name of its type."""
+        return Function(self.place, self.name, self.text, owner, self.trait, self.is_public, self.is_for_c)
 
     def label(self):
         """crate::Type::name or crate::name, as in docs/PROOF-MAP.md"""
@@ -69,13 +79,18 @@ def sources():
     return {place_of(path): path.read_text(encoding="utf-8") for path in sorted(top.glob("crates/*/src/**/*.rt"))}
 
 
-def functions_of(place, text):
+def functions_of(place, text, public_traits):
+    """Those with a body. Public are those that say so, those of a public trait of the repository, and those by which a type has such a trait."""
     if len(re.findall(r"\bfn \w", text)) != len(FUNCTION.findall(text)):
         sys.exit(f"calls.py: not every function of {place} is understood")
     for found in FUNCTION.finditer(text):
+        if DECLARED.match(text, found.end()):
+            continue
         end = re.compile(rf"^{found[1]}\}}", re.M).search(text, found.end())
-        owners = re.findall(r"^impl(?:<[^>]*>)? (\w+)", text[:found.start()], re.M) if found[1] else []
-        yield Function(place, found[4], text[found.start(4):end.end() if end else len(text)], found, owners and f"{place}::{owners[-1]}")
+        trait, of_type, is_pub, of_trait = ([*OWNER.finditer(text[:found.start()])][-1].groups() if found[1] else [None] * 4)
+        owner = f"{place}::{of_type or of_trait}" if found[1] else None
+        is_public = found[2] == "pub " or is_pub == "pub " or trait in public_traits
+        yield Function(place, found[4], text[found.start(4):end.end() if end else len(text)], owner, trait or of_trait, is_public, bool(found[3]))
 
 
 class Calls:
@@ -84,8 +99,27 @@ class Calls:
         self.uses = {place: dict(pair for item in USE.findall(text) for pair in imported(item)) for place, text in hidden.items()}
         structs = [(place, m) for place, text in hidden.items() for m in STRUCT.finditer(text)]
         self.held = {f"{place}::{m[1]}": (place, re.findall(r"[:(] *([A-Z]\w*)", m[2])) for place, m in structs}
-        self.functions = {f.path: f for place, text in hidden.items() for f in functions_of(place, text)}
+        traits = {m[4] for text in hidden.values() for m in OWNER.finditer(text) if m[3] == "pub "}
+        self.functions = {f.path: f for place, text in hidden.items() for f in functions_of(place, text, traits)}
+        copied = [*self.copies([(m[1], f"{place}::{m[2]}") for place, text in hidden.items() for m in OWNER.finditer(text) if m[1]])]
+        self.functions |= {f.path: f for f, _ in copied}
+        copied += self.aliases([(f"{place}::{m[1]}", self.whole(place, m[2])) for place, text in hidden.items() for m in ALIAS.finditer(text)])
+        self.functions |= {f.path: f for f, _ in copied}
         self.edges = {path: self.called_by(f) - {path} for path, f in self.functions.items()}
+        for f, original in copied:
+            self.edges[f.path].add(original)
+
+    def copies(self, impls):
+        """What a trait itself does for each type that has it, and the path of the trait's."""
+        for trait, owner in impls:
+            for f in [f for f in self.functions.values() if f.trait == trait and f.owner.endswith(f"::{trait}")]:
+                if f"{owner}::{f.name}" not in self.functions:
+                    yield f.of(owner), f.path
+
+    def aliases(self, names):
+        """The functions of a type under another name of it, and their path under its own."""
+        return [(f.of(alias), f.path) for alias, owner in names for f in [*self.functions.values()]
+                if f.owner == owner and f"{alias}::{f.name}" not in self.functions]
 
     def whole(self, place, path, owner=None):
         """The path of a function or a type, from its crate on."""
@@ -109,7 +143,7 @@ class Calls:
 
     def called_by(self, function):
         text = function.text[function.text.index("("):]
-        named = re.findall(r"(?<![.\w:])((?:\w+::)*\w+)\(", text)
+        named = re.findall(r"(?<![.\w:])((?:\w+::)+\w+|\w+(?=\())", text)
         paths = {self.whole(function.place, p, function.owner) for p in named} & self.functions.keys()
         types = self.types_of(function, paths)
         for name in set(re.findall(r"\.(\w+)\(", text)):

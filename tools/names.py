@@ -6,9 +6,9 @@ usage: names.py [--program PROGRAM] [--selftest] [SOURCES]
 Proofs, and the comparison with the Rust, go from byte to code to byte. Neither notices two names exchanged in a definition and its code together.
 This compares names and bytes with the original Rust in SOURCES (by default ../shared/docs/src beside the repository). Of each of eight enums:
 the definition that the contracts of from_byte and as_byte name, with its answer to other bytes; its list of codes and the enum, both in the
-Rust's order; every arm of from_byte and as_byte; and the names that PROGRAM (by default crates/inspect/out/inspect) shows. Of each kind: its CODE,
-its row of kinds.txt, and its place in the lists of osdp.h and README.md. Prints a line for each difference and exits with 1 if there is any. To find
-nothing in a place is a difference.
+Rust's order; every arm of from_byte; the enum's numbers, which as_byte gives; and the names that PROGRAM (by default crates/inspect/out/inspect)
+shows. Of each kind: its CODE, its row of kinds.txt, and its place in the lists of osdp.h and README.md. Prints a line for each difference and exits
+with 1 if there is any. To find nothing in a place is a difference.
 
 --selftest exchanges two names or numbers in copies of the files, or in what PROGRAM says, and exits with 1 if one exchange is not noticed.
 """

@@ -25,18 +25,9 @@ edits = {f"{c}!{e.stem}" for c, folder in crates.items() for e in folder.glob("m
 
 
 @functools.cache
-def functions(crate):
-    """Type::name and name of each function of a crate."""
-    found, owner = set(), None
-    for path in sorted((crates[crate] / "src").rglob("*.rt")):
-        for line in path.read_text(encoding="utf-8").splitlines():
-            if m := re.match(r"impl(?:<[^>]*>)? (\w+)", line):
-                owner = m.group(1)
-            elif line.startswith("}"):
-                owner = None
-            elif m := re.match(r"\s*(?:pub(?:\(crate\))? )?(?:extern \"C\" )?fn (\w+)", line):
-                found.add(f"{owner}::{m.group(1)}" if owner and line[0] == " " else m.group(1))
-    return found
+def functions():
+    """crate::Type::name or crate::name of each function."""
+    return {f.label() for f in calls.Calls(calls.sources()).functions.values()}
 
 
 @functools.cache
@@ -92,7 +83,7 @@ def sort(name):
     if "/" in name:
         return "file", (top / name).exists()
     if m := re.fullmatch(r"(\w+)::(.+)", name):
-        return "function", m[1] in crates and m[2] in functions(m[1])
+        return "function", name in functions()
     if m := re.fullmatch(r"(\w+)\.(.+)", name):
         return "definition or theorem", m[1] in crates and m[2] in definitions(m[1])
     return "thing of that sort", False

@@ -22,8 +22,8 @@ cat >>"$copy/crates/text/src/lib.rt" <<'END'
 #[unsafe(no_mangle)]
 pub extern "C" fn bench_printable_text(s: &[u8]) -> i32 {
     match Text::validate_ascii(s) {
-        Guard::Pass => 1,
-        Guard::Refused(_) => 0,
+        Ok(()) => 1,
+        Err(_) => 0,
     }
 }
 
