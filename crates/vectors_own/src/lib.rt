@@ -1,4 +1,5 @@
-// The kinds' own checks and normalisers, which have no limit on the payload's length: for classes 5 and 6 of crates/vectors.
+// The kinds' own checks and normalisers, which have no limit on the payload's length: for classes 5 and 6 of crates/vectors. None for a code byte
+// that no kind has.
 #![tactic(auto)]
 
 ghost use Rattle.std.specs.Prelude.{◌≡◌, length};
@@ -11,7 +12,7 @@ use led::LedRecord;
 use mfg::Mfg;
 use nak::Nak;
 use output::OutputRecord;
-use payload_util::{Guard, Written};
+use payload_util::{Payload, Refusal};
 use plain::acu_rx_size::AcuRxSize;
 use plain::com::Com;
 use plain::comset::ComSet;
@@ -22,12 +23,12 @@ use raw_card::{Fmt, Raw};
 use text::Text;
 use vectors_case::{
     ACURXSIZE, BIOMATCH, BIOMATCHR, BIOREAD, BIOREADR, COM, COMSET, FILETRANSFER, FMT, KEEPACTIVE,
-    KEYPAD, LED, LSTATR, MFG, NAK, OUT, PDID, RAW, TEXT, XRD, none,
+    KEYPAD, LED, LSTATR, MFG, NAK, OUT, PDID, RAW, TEXT, XRD,
 };
 use xrd::Xrd;
 
-pub fn check(code: u8, p: &[u8]) -> Guard {
-    match code {
+pub fn check(code: u8, p: &[u8]) -> Option<Result<(), Refusal>> {
+    let answer = match code {
         LED => LedRecord::check(p),
         OUT => OutputRecord::check(p),
         TEXT => Text::check(p),
@@ -48,14 +49,15 @@ pub fn check(code: u8, p: &[u8]) -> Guard {
         LSTATR => LStatR::check(p),
         ACURXSIZE => AcuRxSize::check(p),
         KEEPACTIVE => KeepActive::check(p),
-        _ => Guard::Refused(none()),
-    }
+        _ => return None,
+    };
+    Some(answer)
 }
 
-pub fn normalise(code: u8, p: &[u8], out: &mut [u8]) -> Written
+pub fn normalise(code: u8, p: &[u8], out: &mut [u8]) -> Option<Result<usize, Refusal>>
     ensures { length out.new ≡ length out.old }
 {
-    match code {
+    let answer = match code {
         LED => LedRecord::normalise(p, out),
         OUT => OutputRecord::normalise(p, out),
         TEXT => Text::normalise(p, out),
@@ -76,6 +78,7 @@ pub fn normalise(code: u8, p: &[u8], out: &mut [u8]) -> Written
         LSTATR => LStatR::normalise(p, out),
         ACURXSIZE => AcuRxSize::normalise(p, out),
         KEEPACTIVE => KeepActive::normalise(p, out),
-        _ => Written::Refused(none()),
-    }
+        _ => return None,
+    };
+    Some(answer)
 }
