@@ -13,19 +13,19 @@ pub mod table;
 use payload_util::Refusal;
 use vectors_case::Case;
 
-// Whether the wanted bytes begin with a record's fixed fields, and from an index on are its tail.
-fn record(c: Case, fixed: &[u8], tail: &[u8], at: usize, want: &[u8]) -> bool {
-    let n = fixed.len();
-    if want.len() < n {
-        return false;
+// Whether reading gives the wanted fixed fields, with which the wanted bytes begin, and the wanted tail, which is there from an index on; or
+// the wanted refusal, and no tail.
+fn reads<const N: usize>(
+    c: Case,
+    fixed: Result<[u8; N], Refusal>,
+    tail: &[u8],
+    at: usize,
+    want: &[u8],
+) -> bool {
+    match fixed {
+        Ok(fields) => {
+            c.wanted.is_ok() && want.starts_with(&fields) && want.get(at..) == Some(tail)
+        }
+        Err(e) => c.refuses(e) && tail.is_empty(),
     }
-    if want.len() < at {
-        return false;
-    }
-    c.row == 0 && fixed == &want[0..n] && tail == &want[at..want.len()]
-}
-
-// Whether e is the wanted refusal and the tail is empty.
-fn refusal(c: Case, e: Refusal, tail: &[u8]) -> bool {
-    c.refuses(e) && tail.len() == 0
 }

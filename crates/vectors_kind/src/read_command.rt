@@ -1,8 +1,9 @@
 // The readers of TEXT, FILETRANSFER and MFG.
 use crate::names;
-use file_transfer::{FileTransfer, FileTransferRead};
-use mfg::{Mfg, MfgRead};
-use text::{Text, TextRead};
+use file_transfer::FileTransfer;
+use mfg::Mfg;
+use payload_util::Record;
+use text::Text;
 use vectors_case::{Case, u32_bytes};
 
 // Where the text and the fragment begin in the wanted bytes: after the fixed fields and the length.
@@ -11,32 +12,23 @@ const TEXT_AT: usize = 6;
 const FRAGMENT_AT: usize = 11;
 
 pub(crate) fn text(c: Case, p: &[u8], want: &[u8]) -> bool {
-    let characters = Text::text(p);
-    match Text::decode(p) {
-        TextRead::Read(r) => {
-            let command = r.command;
-            let fixed = [
-                r.reader,
-                names::text(command),
-                r.temp_time_s,
-                r.row,
-                r.column,
-            ];
-            crate::record(c, &fixed, characters, TEXT_AT, want)
-        }
-        TextRead::Refused(e) => crate::refusal(c, e, characters),
-    }
+    let fixed = Text::decode(p).map(text_fields);
+    crate::reads(c, fixed, Text::text(p), TEXT_AT, want)
+}
+
+fn text_fields(r: Text) -> [u8; 5] {
+    [
+        r.reader,
+        names::text(r.command),
+        r.temp_time_s,
+        r.row,
+        r.column,
+    ]
 }
 
 pub(crate) fn file_transfer(c: Case, p: &[u8], want: &[u8]) -> bool {
-    let fragment = FileTransfer::fragment(p);
-    match FileTransfer::decode(p) {
-        FileTransferRead::Read(r) => {
-            let fixed = file_fields(r);
-            crate::record(c, &fixed, fragment, FRAGMENT_AT, want)
-        }
-        FileTransferRead::Refused(e) => crate::refusal(c, e, fragment),
-    }
+    let fixed = FileTransfer::decode(p).map(file_fields);
+    crate::reads(c, fixed, FileTransfer::fragment(p), FRAGMENT_AT, want)
 }
 
 fn file_fields(r: FileTransfer) -> [u8; 9] {
@@ -56,9 +48,6 @@ fn file_fields(r: FileTransfer) -> [u8; 9] {
 }
 
 pub(crate) fn mfg(c: Case, p: &[u8], want: &[u8]) -> bool {
-    let payload = Mfg::payload(p);
-    match Mfg::decode(p) {
-        MfgRead::Read(r) => crate::record(c, &[r.oui_0, r.oui_1, r.oui_2], payload, 3, want),
-        MfgRead::Refused(e) => crate::refusal(c, e, payload),
-    }
+    let fixed = Mfg::decode(p).map(|r| [r.oui_0, r.oui_1, r.oui_2]);
+    crate::reads(c, fixed, Mfg::payload(p), 3, want)
 }

@@ -1,42 +1,23 @@
 // The readers of the kinds of one exact length whose fields take every value.
-use plain::acu_rx_size::{AcuRxSize, AcuRxSizeRead};
-use plain::com::{Com, ComRead};
-use plain::comset::{ComSet, ComSetRead};
-use plain::keep_active::{KeepActive, KeepActiveRead};
-use plain::lstat::{LStatR, LStatRRead};
-use plain::pdid::{PdId, PdIdRead};
+use payload_util::Record;
+use plain::acu_rx_size::AcuRxSize;
+use plain::com::AddressAndBaud;
+use plain::keep_active::KeepActive;
+use plain::lstat::LStatR;
+use plain::pdid::PdId;
 use vectors_case::{Case, u16_bytes, u32_bytes};
 
-pub(crate) fn com_set(c: Case, p: &[u8], want: &[u8]) -> bool {
-    match ComSet::decode(p) {
-        ComSetRead::Read(r) => address_and_baud(c, r.address, r.baud, want),
-        ComSetRead::Refused(e) => c.refuses(e),
-    }
-}
-
-pub(crate) fn com_reply(c: Case, p: &[u8], want: &[u8]) -> bool {
-    match Com::decode(p) {
-        ComRead::Read(r) => address_and_baud(c, r.address, r.baud, want),
-        ComRead::Refused(e) => c.refuses(e),
-    }
-}
-
-fn address_and_baud(c: Case, address: u8, baud: u32, want: &[u8]) -> bool {
-    let rate = u32_bytes(baud);
-    crate::record(
-        c,
-        &[address, rate[0], rate[1], rate[2], rate[3]],
-        &[],
-        5,
-        want,
-    )
+// COM and COMSET.
+pub(crate) fn address_and_baud<const CODE: u8>(c: Case, p: &[u8], want: &[u8]) -> bool {
+    let fixed = AddressAndBaud::<CODE>::decode(p).map(|r| {
+        let rate = u32_bytes(r.baud);
+        [r.address, rate[0], rate[1], rate[2], rate[3]]
+    });
+    crate::reads(c, fixed, &[], 5, want)
 }
 
 pub(crate) fn pd_id(c: Case, p: &[u8], want: &[u8]) -> bool {
-    match PdId::decode(p) {
-        PdIdRead::Read(r) => crate::record(c, &identity(r), &[], 12, want),
-        PdIdRead::Refused(e) => c.refuses(e),
-    }
+    crate::reads(c, PdId::decode(p).map(identity), &[], 12, want)
 }
 
 fn identity(r: PdId) -> [u8; 12] {
@@ -58,26 +39,16 @@ fn identity(r: PdId) -> [u8; 12] {
 }
 
 pub(crate) fn l_stat_r(c: Case, p: &[u8], want: &[u8]) -> bool {
-    match LStatR::decode(p) {
-        LStatRRead::Read(r) => crate::record(c, &[r.tamper, r.power], &[], 2, want),
-        LStatRRead::Refused(e) => c.refuses(e),
-    }
+    let fixed = LStatR::decode(p).map(|r| [r.tamper, r.power]);
+    crate::reads(c, fixed, &[], 2, want)
 }
 
 pub(crate) fn acu_rx_size(c: Case, p: &[u8], want: &[u8]) -> bool {
-    match AcuRxSize::decode(p) {
-        AcuRxSizeRead::Read(r) => number(c, r.max_size, want),
-        AcuRxSizeRead::Refused(e) => c.refuses(e),
-    }
+    let fixed = AcuRxSize::decode(p).map(|r| u16_bytes(r.max_size));
+    crate::reads(c, fixed, &[], 2, want)
 }
 
 pub(crate) fn keep_active(c: Case, p: &[u8], want: &[u8]) -> bool {
-    match KeepActive::decode(p) {
-        KeepActiveRead::Read(r) => number(c, r.duration_ms, want),
-        KeepActiveRead::Refused(e) => c.refuses(e),
-    }
-}
-
-fn number(c: Case, n: u16, want: &[u8]) -> bool {
-    crate::record(c, &u16_bytes(n), &[], 2, want)
+    let fixed = KeepActive::decode(p).map(|r| u16_bytes(r.duration_ms));
+    crate::reads(c, fixed, &[], 2, want)
 }

@@ -1,60 +1,38 @@
 // The readers of RAW, FMT, KEYPAD, NAK and XRD.
 use crate::names;
-use keypad::{Keypad, KeypadRead};
-use nak::{Nak, NakRead};
-use raw_card::{Fmt, FmtRead, Raw, RawRead};
+use keypad::Keypad;
+use nak::Nak;
+use payload_util::Record;
+use raw_card::{Fmt, Raw};
 use vectors_case::{Case, u16_bytes};
-use xrd::{Xrd, XrdRead};
+use xrd::Xrd;
 
 pub(crate) fn raw(c: Case, p: &[u8], want: &[u8]) -> bool {
-    let bits = Raw::bits(p);
-    match Raw::decode(p) {
-        RawRead::Read(r) => {
-            let count = u16_bytes(r.bit_count);
-            let fixed = [r.reader, r.format_code, count[0], count[1]];
-            crate::record(c, &fixed, bits, 4, want)
-        }
-        RawRead::Refused(e) => crate::refusal(c, e, bits),
-    }
+    let fixed = Raw::decode(p).map(raw_fields);
+    crate::reads(c, fixed, Raw::bits(p), 4, want)
+}
+
+fn raw_fields(r: Raw) -> [u8; 4] {
+    let count = u16_bytes(r.bit_count);
+    [r.reader, r.format_code, count[0], count[1]]
 }
 
 pub(crate) fn fmt(c: Case, p: &[u8], want: &[u8]) -> bool {
-    let chars = Fmt::chars(p);
-    match Fmt::decode(p) {
-        FmtRead::Read(r) => crate::record(
-            c,
-            &[r.reader, r.direction, r.char_count],
-            chars,
-            3,
-            want,
-        ),
-        FmtRead::Refused(e) => crate::refusal(c, e, chars),
-    }
+    let fixed = Fmt::decode(p).map(|r| [r.reader, r.direction, r.char_count]);
+    crate::reads(c, fixed, Fmt::chars(p), 3, want)
 }
 
 pub(crate) fn keypad(c: Case, p: &[u8], want: &[u8]) -> bool {
-    let digits = Keypad::digits(p);
-    match Keypad::decode(p) {
-        KeypadRead::Read(r) => crate::record(c, &[r.reader, r.digit_count], digits, 2, want),
-        KeypadRead::Refused(e) => crate::refusal(c, e, digits),
-    }
+    let fixed = Keypad::decode(p).map(|r| [r.reader, r.digit_count]);
+    crate::reads(c, fixed, Keypad::digits(p), 2, want)
 }
 
 pub(crate) fn nak(c: Case, p: &[u8], want: &[u8]) -> bool {
-    let completion_codes = Nak::completion_codes(p);
-    match Nak::decode(p) {
-        NakRead::Read(r) => {
-            let error = r.error;
-            crate::record(c, &[names::nak(error)], completion_codes, 1, want)
-        }
-        NakRead::Refused(e) => crate::refusal(c, e, completion_codes),
-    }
+    let fixed = Nak::decode(p).map(|r| [names::nak(r.error)]);
+    crate::reads(c, fixed, Nak::completion_codes(p), 1, want)
 }
 
 pub(crate) fn xrd(c: Case, p: &[u8], want: &[u8]) -> bool {
-    let payload = Xrd::payload(p);
-    match Xrd::decode(p) {
-        XrdRead::Read(r) => crate::record(c, &[r.mode], payload, 1, want),
-        XrdRead::Refused(e) => crate::refusal(c, e, payload),
-    }
+    let fixed = Xrd::decode(p).map(|r| [r.mode]);
+    crate::reads(c, fixed, Xrd::payload(p), 1, want)
 }

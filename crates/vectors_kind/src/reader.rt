@@ -7,8 +7,7 @@ use vectors_case::{
 
 // Whether the reader gives the wanted fields and the wanted tail. False if no command, or no reply, has the code byte.
 pub fn command(c: Case, p: &[u8], want: &[u8]) -> bool {
-    let code = c.code;
-    match code {
+    match c.code {
         LED => list::records(c, LED_BYTES, p, want),
         OUT => list::records(c, OUT_BYTES, p, want),
         TEXT => read_command::text(c, p, want),
@@ -16,7 +15,7 @@ pub fn command(c: Case, p: &[u8], want: &[u8]) -> bool {
         BIOMATCH => read_bio::bio_match(c, p, want),
         FILETRANSFER => read_command::file_transfer(c, p, want),
         MFG => read_command::mfg(c, p, want),
-        COMSET => read_plain::com_set(c, p, want),
+        COMSET => read_plain::address_and_baud::<COMSET>(c, p, want),
         ACURXSIZE => read_plain::acu_rx_size(c, p, want),
         KEEPACTIVE => read_plain::keep_active(c, p, want),
         _ => false,
@@ -24,8 +23,7 @@ pub fn command(c: Case, p: &[u8], want: &[u8]) -> bool {
 }
 
 pub fn reply(c: Case, p: &[u8], want: &[u8]) -> bool {
-    let code = c.code;
-    match code {
+    match c.code {
         RAW => read_reply::raw(c, p, want),
         FMT => read_reply::fmt(c, p, want),
         BIOREADR => read_bio::bio_read_r(c, p, want),
@@ -33,7 +31,7 @@ pub fn reply(c: Case, p: &[u8], want: &[u8]) -> bool {
         NAK => read_reply::nak(c, p, want),
         XRD => read_reply::xrd(c, p, want),
         KEYPAD => read_reply::keypad(c, p, want),
-        COM => read_plain::com_reply(c, p, want),
+        COM => read_plain::address_and_baud::<COM>(c, p, want),
         PDID => read_plain::pd_id(c, p, want),
         LSTATR => read_plain::l_stat_r(c, p, want),
         _ => false,

@@ -1,95 +1,52 @@
 // Class 0: the code tables. The argument is the table, the input the byte to look up, the output the byte of its code.
 use crate::names;
 use biometric::{BioFormat, BioType};
-use codes::{CommandCode, CommandCodeRead, ReplyCode, ReplyCodeRead};
+use codes::{CommandCode, ReplyCode};
 use led::LedColor;
-use nak::{NakErrorCode, NakErrorCodeRead};
-use output::{OutputControlCode, OutputControlCodeRead};
+use nak::NakErrorCode;
+use output::OutputControlCode;
 use payload_util::Refusal;
-use text::{TextCommand, TextCommandRead};
+use text::TextCommand;
 use vectors_case::Case;
 
-// The byte of the code that was found: as the library gives it, and by the code's name.
-#[derive(Clone, Copy)]
-enum Found {
-    Code(u8, u8),
-    Refused(Refusal),
-    NoTable,
-}
+// The byte of a code: as the library gives it, and by the code's name.
+type Bytes = [u8; 2];
 
 pub fn run(c: Case, input: &[u8], want: &[u8]) -> bool {
-    if input.len() != 1 {
+    let [b] = input else {
         return false;
-    }
-    match look_up(c.argument, input[0]) {
-        Found::Code(b, named) => {
-            c.row == 0 && [b].as_slice() == want && [named].as_slice() == want
-        }
-        Found::Refused(e) => c.refuses(e),
-        Found::NoTable => false,
+    };
+    match look_up(c.argument, *b) {
+        Some(Ok(bytes)) => c.wanted.is_ok() && want.len() == 1 && bytes == [want[0]; 2],
+        Some(Err(e)) => c.refuses(e),
+        None => false,
     }
 }
 
-fn look_up(table: usize, b: u8) -> Found {
-    match table {
-        0 => command(b),
-        1 => reply(b),
-        2 => color(b),
-        3 => bio_type(b),
-        4 => bio_format(b),
-        5 => output(b),
-        6 => text(b),
-        7 => nak(b),
-        _ => Found::NoTable,
-    }
+// None if there is no such table.
+fn look_up(table: usize, b: u8) -> Option<Result<Bytes, Refusal>> {
+    let found = match table {
+        0 => CommandCode::from_byte(b).map(|code| [code.as_byte(), names::command(code)]),
+        1 => ReplyCode::from_byte(b).map(|code| [code.as_byte(), names::reply(code)]),
+        2 => Ok(color(LedColor::from_byte(b))),
+        3 => Ok(bio_type(BioType::from_byte(b))),
+        4 => Ok(bio_format(BioFormat::from_byte(b))),
+        5 => OutputControlCode::from_byte(b).map(|code| [code.as_byte(), names::output(code)]),
+        6 => TextCommand::from_byte(b).map(|code| [code.as_byte(), names::text(code)]),
+        7 => NakErrorCode::from_byte(b).map(|code| [code.as_byte(), names::nak(code)]),
+        _ => return None,
+    };
+    Some(found)
 }
 
-fn command(b: u8) -> Found {
-    match CommandCode::from_byte(b) {
-        CommandCodeRead::Read(code) => Found::Code(code.as_byte(), names::command(code)),
-        CommandCodeRead::Refused(e) => Found::Refused(e),
-    }
+fn color(code: LedColor) -> Bytes {
+    [code.as_byte(), names::color(code)]
 }
 
-fn reply(b: u8) -> Found {
-    match ReplyCode::from_byte(b) {
-        ReplyCodeRead::Read(code) => Found::Code(code.as_byte(), names::reply(code)),
-        ReplyCodeRead::Refused(e) => Found::Refused(e),
-    }
+fn bio_type(code: BioType) -> Bytes {
+    [code.as_byte(), names::bio_type(code)]
 }
 
-fn color(b: u8) -> Found {
-    let code = LedColor::from_byte(b);
-    Found::Code(code.as_byte(), names::color(code))
-}
-
-fn bio_type(b: u8) -> Found {
-    let code = BioType::from_byte(b);
-    Found::Code(code.as_byte(), names::bio_type(code))
-}
-
-fn bio_format(b: u8) -> Found {
-    let code = BioFormat::from_byte(b);
-    Found::Code(code.as_byte(), names::bio_format(code))
-}
-
-fn output(b: u8) -> Found {
-    match OutputControlCode::from_byte(b) {
-        OutputControlCodeRead::Read(code) => Found::Code(code.as_byte(), names::output(code)),
-        OutputControlCodeRead::Refused(e) => Found::Refused(e),
-    }
-}
-
-fn text(b: u8) -> Found {
-    match TextCommand::from_byte(b) {
-        TextCommandRead::Read(code) => Found::Code(code.as_byte(), names::text(code)),
-        TextCommandRead::Refused(e) => Found::Refused(e),
-    }
-}
-
-fn nak(b: u8) -> Found {
-    match NakErrorCode::from_byte(b) {
-        NakErrorCodeRead::Read(error) => Found::Code(error.as_byte(), names::nak(error)),
-        NakErrorCodeRead::Refused(e) => Found::Refused(e),
-    }
+fn bio_format(code: BioFormat) -> Bytes {
+    [code.as_byte(), names::bio_format(code)]
 }

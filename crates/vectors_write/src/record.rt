@@ -5,16 +5,15 @@ use file_transfer::FileTransfer;
 use keypad::Keypad;
 use led::{LedColor, LedPermanent, LedRecord, LedTemporary};
 use mfg::Mfg;
-use nak::{Nak, NakErrorCode, NakErrorCodeRead};
-use output::{OutputControlCode, OutputControlCodeRead, OutputRecord};
+use nak::{Nak, NakErrorCode};
+use output::{OutputControlCode, OutputRecord};
 use plain::acu_rx_size::AcuRxSize;
-use plain::com::Com;
-use plain::comset::ComSet;
+use plain::com::AddressAndBaud;
 use plain::keep_active::KeepActive;
 use plain::lstat::LStatR;
 use plain::pdid::PdId;
 use raw_card::{Fmt, Raw};
-use text::{Text, TextCommand, TextCommandRead};
+use text::{Text, TextCommand};
 use vectors_case::{byte, u16_at, u32_at};
 use xrd::Xrd;
 
@@ -47,10 +46,7 @@ fn color(f: &[u8], at: usize) -> LedColor {
 }
 
 pub(crate) fn output(f: &[u8]) -> OutputRecord {
-    let code = match OutputControlCode::from_byte(byte(f, 1)) {
-        OutputControlCodeRead::Read(code) => code,
-        OutputControlCodeRead::Refused(_) => OutputControlCode::Nop,
-    };
+    let code = OutputControlCode::from_byte(byte(f, 1)).unwrap_or(OutputControlCode::Nop);
     OutputRecord {
         output: byte(f, 0),
         code,
@@ -59,10 +55,7 @@ pub(crate) fn output(f: &[u8]) -> OutputRecord {
 }
 
 pub(crate) fn text(f: &[u8]) -> Text {
-    let command = match TextCommand::from_byte(byte(f, 1)) {
-        TextCommandRead::Read(command) => command,
-        TextCommandRead::Refused(_) => TextCommand::PermanentNoWrap,
-    };
+    let command = TextCommand::from_byte(byte(f, 1)).unwrap_or(TextCommand::PermanentNoWrap);
     Text {
         reader: byte(f, 0),
         command,
@@ -131,10 +124,7 @@ pub(crate) fn bio_match_r(f: &[u8]) -> BioMatchR {
 }
 
 pub(crate) fn nak(f: &[u8]) -> Nak {
-    match NakErrorCode::from_byte(byte(f, 0)) {
-        NakErrorCodeRead::Read(error) => Nak::simple(error),
-        NakErrorCodeRead::Refused(_) => Nak::simple(NakErrorCode::NoError),
-    }
+    Nak::simple(NakErrorCode::from_byte(byte(f, 0)).unwrap_or(NakErrorCode::NoError))
 }
 
 pub(crate) fn xrd(f: &[u8]) -> Xrd {
@@ -148,15 +138,8 @@ pub(crate) fn keypad(f: &[u8]) -> Keypad {
     }
 }
 
-pub(crate) fn com_set(f: &[u8]) -> ComSet {
-    ComSet {
-        address: byte(f, 0),
-        baud: u32_at(f, 1),
-    }
-}
-
-pub(crate) fn com_reply(f: &[u8]) -> Com {
-    Com {
+pub(crate) fn address_and_baud<const CODE: u8>(f: &[u8]) -> AddressAndBaud<CODE> {
+    AddressAndBaud {
         address: byte(f, 0),
         baud: u32_at(f, 1),
     }

@@ -2,11 +2,11 @@
 ghost use Rattle.std.specs.Prelude.{◌≡◌, length};
 
 use crate::{lend, record};
-use payload_util::Written;
+use payload_util::Refusal;
 use raw_card::Raw;
 use vectors_case::{
     ACURXSIZE, BIOMATCH, BIOMATCHR, BIOREAD, BIOREADR, COM, COMSET, Case, FILETRANSFER, FMT,
-    KEEPACTIVE, KEYPAD, LED, LSTATR, MFG, NAK, OUT, PDID, RAW, TEXT, XRD, none, put, wrote,
+    KEEPACTIVE, KEYPAD, LED, LSTATR, MFG, NAK, OUT, PDID, RAW, TEXT, XRD, fill_up, wrote,
 };
 
 const COMMANDS: u8 = 7;
@@ -16,51 +16,47 @@ const BITS: u8 = 9;
 pub fn run(c: Case, input: &[u8], want: &[u8], out: &mut [u8]) -> bool
     ensures { length out.new ≡ length out.old }
 {
-    let n = out.len();
-    let room = c.room;
-    if n < room {
+    if !fill_up(c, &mut *out) {
         return false;
     }
-    put(&mut *out, 0, n, c.fill);
-    let written = write(c, input, &mut out[0..room]);
-    wrote(c, written, want, out)
+    match write(c, input, &mut out[..c.room]) {
+        Some(written) => wrote(c, written, want, out),
+        None => false,
+    }
 }
 
-// The record's fixed fields are before an index, and its tail is from there on.
-fn write(c: Case, input: &[u8], out: &mut [u8]) -> Written {
+// The record's fixed fields are before an index, and its tail is from there on. None if the case asks for nothing that can be written.
+fn write(c: Case, input: &[u8], out: &mut [u8]) -> Option<Result<usize, Refusal>> {
     let at = c.argument;
-    let class = c.class;
-    if class == BITS {
+    if c.class == BITS {
         return bits(at, input, out);
     }
-    if input.len() < at {
-        return Written::Refused(none());
-    }
-    let tail = &input[at..input.len()];
-    match class {
-        COMMANDS => command(c.code, &input[0..at], tail, out),
-        _ => reply(c.code, &input[0..at], tail, out),
+    let (fixed, tail) = input.split_at_checked(at)?;
+    match c.class {
+        COMMANDS => command(c.code, fixed, tail, out),
+        _ => reply(c.code, fixed, tail, out),
     }
 }
 
-fn command(code: u8, f: &[u8], tail: &[u8], out: &mut [u8]) -> Written {
-    match code {
-        LED => lend::leds(f, out),
-        OUT => lend::outputs(f, out),
+fn command(code: u8, f: &[u8], tail: &[u8], out: &mut [u8]) -> Option<Result<usize, Refusal>> {
+    let written = match code {
+        LED => return lend::leds(f, out),
+        OUT => return lend::outputs(f, out),
         TEXT => record::text(f).encode(tail, out),
         BIOREAD => record::bio_read(f).encode(out),
         BIOMATCH => record::bio_match(f).encode(tail, out),
         FILETRANSFER => record::file_transfer(f).encode(tail, out),
         MFG => record::mfg(f).encode(tail, out),
-        COMSET => record::com_set(f).encode(out),
+        COMSET => record::address_and_baud::<COMSET>(f).encode(out),
         ACURXSIZE => record::acu_rx_size(f).encode(out),
         KEEPACTIVE => record::keep_active(f).encode(out),
-        _ => Written::Refused(none()),
-    }
+        _ => return None,
+    };
+    Some(written)
 }
 
-fn reply(code: u8, f: &[u8], tail: &[u8], out: &mut [u8]) -> Written {
-    match code {
+fn reply(code: u8, f: &[u8], tail: &[u8], out: &mut [u8]) -> Option<Result<usize, Refusal>> {
+    let written = match code {
         RAW => record::raw(f).encode(tail, out),
         FMT => record::fmt(f).encode(tail, out),
         BIOREADR => record::bio_read_r(f).encode(tail, out),
@@ -68,21 +64,19 @@ fn reply(code: u8, f: &[u8], tail: &[u8], out: &mut [u8]) -> Written {
         NAK => record::nak(f).encode(tail, out),
         XRD => record::xrd(f).encode(tail, out),
         KEYPAD => record::keypad(f).encode(tail, out),
-        COM => record::com_reply(f).encode(out),
+        COM => record::address_and_baud::<COM>(f).encode(out),
         PDID => record::pd_id(f).encode(out),
         LSTATR => record::l_stat_r(f).encode(out),
-        _ => Written::Refused(none()),
-    }
+        _ => return None,
+    };
+    Some(written)
 }
 
-fn bits(count: usize, bytes: &[u8], out: &mut [u8]) -> Written {
-    if 65535 < count {
-        return Written::Refused(none());
-    }
+fn bits(count: usize, bytes: &[u8], out: &mut [u8]) -> Option<Result<usize, Refusal>> {
     let raw = Raw {
         reader: 0,
         format_code: 0,
-        bit_count: count as u16,
+        bit_count: u16::try_from(count).ok()?,
     };
-    raw.iter_bits(bytes, out)
+    Some(raw.iter_bits(bytes, out))
 }
