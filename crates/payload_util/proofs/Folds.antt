@@ -6,7 +6,6 @@ use Prim.Native.Nat.{ℕ, zero, suc, ◌*◌, ◌≤◌}
 use native.Mathlib.Nat.{suc-mul, zero-mul}
 use native.Mathlib.Omega.{arith}
 use lib.ListN.{length, get_or, set, take, drop, length-append}
-use lib.Seq.{take-append_seam}
 use Rattle.payload_util.specs.Guards.{room}
 use Rattle.payload_util.specs.Loss.{Keep, up_to, kept, keep, only_at, times}
 use Rattle.payload_util.specs.Writing.{Effect, effect, room_last, put_checked}
@@ -72,16 +71,6 @@ module _ (g : Guard) (code : ℕ) (ls : List Keep) (p out : List ℕ) {w : Outco
     (is : ◌≡◌ {A = Effect} (w, e) (put_checked g code p out)) where
   abbrev all : Guard
   all = room_last g (room code (length p) (length out))
-
-  -- it is at the front
-  pub put_front : {n : ℕ} → w ≡ Ok n → take (length p) e ≡ p
-  put_front {n} h = go all is
-    where
-      go : (a : Guard) → ◌≡◌ {A = Effect} (w, e) (effect a p out) → take (length p) e ≡ p
-      go (Ok _) q = ap (λ (x : Effect). take (length p) x.1) q ∙ take-append_seam p (drop (length p) out)
-      go (Err x) q =
-          let z : Err x ≡ Ok n = sym (ap (λ (x : Effect). x.0) q) ∙ h in
-          let y : ◌≡◌ {A = ℕ} 0 1 = cc in absurd (omega arith)
 
   same_room : put_checked g code (keep ls p) out ≡ effect all (keep ls p) out
   same_room = ap (λ (n : ℕ). effect (room_last g (room code n (length out))) (keep ls p) out) (length_keep ls p)

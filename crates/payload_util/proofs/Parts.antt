@@ -1,15 +1,14 @@
 -- Parts of a list: up to the end, a copy part by part, a head and a tail put into a buffer, and a payload's first bytes one by one.
 -- Assumes nothing.
 use mathlib.Core.Path.{◌≡◌, sym, ap, ◌∙◌}
-use mathlib.Core.List.{List, [], ◌∷◌, ◌++◌, append_assoc}
+use mathlib.Core.List.{List, [], ◌∷◌, ◌++◌}
 use Prim.Native.Nat.{ℕ, zero, suc, ◌+◌, ◌-◌, ◌≤◌}
 use native.Mathlib.Nat.{add-zero, zero-add}
 use native.Mathlib.Omega.{arith}
 use lib.ListN.{length, get_or, take, drop, length-append, length-drop, drop_of_length-le}
-use lib.Seq.{paste, take-paste, drop-paste, length-take-le, take_all, take-length, take-add, take-take, take-append-add, take-append_seam, drop-append-add, drop-cons, drop-drop}
+use lib.Seq.{paste, take_all, take-length, take-append_seam, drop-append-add, drop-cons, drop-drop}
 use Rattle.payload_util.specs.Guards.{room}
 use Rattle.payload_util.specs.Writing.{put}
-use Rattle.payload_util.proofs.Filled.{back_over}
 use Rattle.std.specs.Prelude.{Ok, Err}
 use Rattle.payload_util.specs.Refusals.{Pass}
 use Rattle.payload_util.specs.declared.Refusal.{Refusal}
@@ -21,38 +20,6 @@ part_to_end p at = take_all (length p - at) (drop at p) (simp length-drop (omega
 -- e is the block d with s at its front
 pub front : (d s e : List ℕ) → e ≡ paste d 0 s (length s) → take (length s) e ≡ s
 front d s e p = simp (p, take-length, zero-add, take-append_seam)
-
--- a copy of the front of s
-pub paste_front : (d s : List ℕ) (at k : ℕ) → k ≤ length s → paste d at (take k s) (length (take k s)) ≡ paste d at s k
-paste_front d s at k h = rw (take-length, length-take-le k s h)
-
-module _ (d s : List ℕ) (at i : ℕ) (fits : at + length s ≤ length d) (within : i ≤ length s) where
-  -- what is before an offset that the copy of the first i elements has passed
-  before_paste : (j : ℕ) → j ≤ i → take (at + j) (paste d at s i) ≡ take at d ++ take j s
-  before_paste j h =
-      let a : length (take at d) ≡ at = length-take-le at d (omega arith) in
-      sym (take-take (at + j) (at + i) (paste d at s i) (omega arith))
-      ∙ ap (take (at + j)) (take-paste d at s i (omega arith) within)
-      ∙ ap (λ (n : ℕ). take (n + j) (take at d ++ take i s)) (sym a)
-      ∙ take-append-add (take at d) (take i s) j
-      ∙ ap (λ (l : List ℕ). take at d ++ l) (take-take j i s h)
-
-  -- after it, a copy of the part from j to k is a copy of the first k, if the part starts at i or before, and ends at i or after
-  pub paste_part : (j k : ℕ) → j ≤ i → i ≤ k → k ≤ length s
-      → paste (paste d at s i) (at + j) (take (k - j) (drop j s)) (length (take (k - j) (drop j s))) ≡ paste d at s k
-  paste_part j k hj hi hk =
-      let long : length (take (k - j) (drop j s)) ≡ k - j = length-take-le (k - j) (drop j s) (simp length-drop (omega arith)) in
-      let ends : at + j + (k - j) ≡ at + k = omega arith in
-      let sum : k ≡ j + (k - j) = omega arith in
-      let whole : take k s ≡ take j s ++ take (k - j) (drop j s) = ap (λ (n : ℕ). take n s) sum ∙ take-add j (k - j) s in
-      let rest : drop (at + k) (paste d at s i) ≡ drop (at + k) d =
-      back_over (paste d at s i) d (at + i) (at + k) (omega arith) (drop-paste d at s i (omega arith) within) in
-      rw (take-length, long, ends, before_paste j hj, rest, whole, append_assoc (take at d) (take j s) (take (k - j) (drop j s)))
-
--- d is the buffer with all that is to be written
-pub one_part : (code : ℕ) (p out d : List ℕ) → room code (length p) (length out) ≡ Pass → d ≡ paste out 0 p (length p)
-    → (Ok (length p), d) ≡ put code p out
-one_part code p out d fits q = simp (fits, q, take-length, zero-add)
 
 -- d is the buffer with the head, and e is d with the tail after it
 pub two_parts : (code : ℕ) (h t out d e : List ℕ) → room code (length h + length t) (length out) ≡ Pass

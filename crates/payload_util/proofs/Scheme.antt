@@ -14,7 +14,7 @@ use Rattle.payload_util.specs.Guards.{room, present}
 use Rattle.payload_util.specs.Writing.{Effect, effect, room_last, put_checked, Leaves, rewrite}
 use Rattle.payload_util.specs.Loss.{without}
 use Rattle.payload_util.specs.Form.{Listed, Form, fixed, tailed, listed, code, loss, check, Record, whole, refuse, bytes, read, written, normalise, Accepted, ReadsAs, WritesAs, LosesOnly}
-use Rattle.payload_util.specs.Law.{Some, Law}
+use Rattle.payload_util.specs.Law.{Law}
 use Rattle.payload_util.proofs.Guards.{also_pass, gives_pass, pass_present, room_pass}
 use Rattle.payload_util.proofs.Each.{length_each, each_at}
 use Rattle.std.specs.Prelude.{Ok, Err}

@@ -19,9 +19,6 @@ bytes_same a b r e = slice_eq-Decides Decides-eqb a b r e
 
 -- a buffer by its parts
 module _ (s want : List ℕ) (at b : ℕ) where
-  pub around_fits : s ≡ around at want (length s) b → at + length want ≤ length s
-  around_fits q = omega (arith, simp (length-append, length-replicate) at (ap length q))
-
   pub around_parts : s ≡ around at want (length s) b
       → (take at s ≡ replicate at b) × (take (length want) (drop at s) ≡ want) × AllFrom s (at + length want) b
   around_parts q =
