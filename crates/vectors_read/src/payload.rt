@@ -1,11 +1,11 @@
 // Classes 5 and 6: a payload, read, checked and written again, by its code byte and by its kind.
 ghost use Rattle.std.specs.Prelude.{◌≡◌, length};
 
-use osdp::{Kind, Lookup, Side};
-use payload_util::{Guard, Written};
+use osdp::{Kind, Side};
+use payload_util::{Refusal, Row};
 use vectors_case::{
     ACURXSIZE, BIOMATCH, BIOMATCHR, BIOREAD, BIOREADR, COM, COMSET, Case, FILETRANSFER, FMT,
-    KEEPACTIVE, KEYPAD, LED, LSTATR, MFG, NAK, OUT, PDID, RAW, TEXT, XRD, put, wrote,
+    KEEPACTIVE, KEYPAD, LED, LSTATR, MFG, NAK, OUT, PDID, RAW, TEXT, XRD, fill_up, wrote,
 };
 use vectors_kind::reader;
 
@@ -24,17 +24,18 @@ enum Call {
     OfKind(u8),
 }
 
+// None if no kind has the code byte.
 impl Call {
-    fn check(self, p: &[u8]) -> Guard {
+    fn check(self, p: &[u8]) -> Option<Result<(), Refusal>> {
         match self {
-            Call::ByCode(side, code) => osdp::check(side, code, p),
+            Call::ByCode(side, code) => Some(osdp::check(side, code, p)),
             Call::OfKind(code) => vectors_own::check(code, p),
         }
     }
 
-    fn normalise(self, p: &[u8], out: &mut [u8]) -> Written {
+    fn normalise(self, p: &[u8], out: &mut [u8]) -> Option<Result<usize, Refusal>> {
         match self {
-            Call::ByCode(side, code) => osdp::normalise(side, code, p, out),
+            Call::ByCode(side, code) => Some(osdp::normalise(side, code, p, out)),
             Call::OfKind(code) => vectors_own::normalise(code, p, out),
         }
     }
@@ -50,20 +51,28 @@ fn by_code(c: Case, p: &[u8], want: &[u8], out: &mut [u8]) -> bool {
     if c.argument == OF_KIND {
         return true;
     }
-    let call = Call::ByCode(side_of(c), c.code);
-    finds(c, osdp::kind_of(side_of(c), c.code))
-        && c.guards(osdp::strict(side_of(c), c.code, p))
-        && answers(reading(c), call, p, want, out)
+    let side = side_of(c);
+    finds(c, osdp::kind_of(side, c.code))
+        && c.guards(osdp::strict(side, c.code, p))
+        && answers(reading(c), Call::ByCode(side, c.code), p, want, out)
 }
 
 // Whether what a code byte was found to be is what the case says.
-fn finds(c: Case, found: Lookup) -> bool {
+fn finds(c: Case, found: Result<Kind, Refusal>) -> bool {
     match found {
-        Lookup::Carried(kind) => {
-            code_of(kind) == c.code && c.row != 1 && c.row != 2 && c.row != 14
-        }
-        Lookup::NotCarried => c.row == 14,
-        Lookup::Unknown => c.row == 1 || c.row == 2,
+        Ok(kind) => code_of(kind) == c.code && !is_of_code(c),
+        Err(e) => c.refuses(e),
+    }
+}
+
+// Whether the wanted refusal is one of a code byte, whatever the payload.
+fn is_of_code(c: Case) -> bool {
+    match c.wanted {
+        Err(e) => matches!(
+            e.row,
+            Row::UnknownCommand | Row::UnknownReply | Row::NotCarried
+        ),
+        Ok(()) => false,
     }
 }
 
@@ -119,24 +128,26 @@ fn reads(c: Case, p: &[u8], want: &[u8]) -> bool {
 }
 
 // What reading has to answer: only the strict check gives row 17.
-fn reading(mut c: Case) -> Case {
-    if c.row == 17 {
-        c.row = 0;
+fn reading(c: Case) -> Case {
+    match c.wanted {
+        Err(e) if e.row == Row::Folded => Case {
+            wanted: Ok(()),
+            ..c
+        },
+        _ => c,
     }
-    c
 }
 
 fn answers(c: Case, call: Call, p: &[u8], want: &[u8], out: &mut [u8]) -> bool {
-    c.guards(call.check(p)) && normalises(c, call, p, want, out)
+    call.check(p).is_some_and(|g| c.guards(g)) && normalises(c, call, p, want, out)
 }
 
 fn normalises(c: Case, call: Call, p: &[u8], want: &[u8], out: &mut [u8]) -> bool {
-    let n = out.len();
-    let room = c.room;
-    if n < room {
+    if !fill_up(c, &mut *out) {
         return false;
     }
-    put(&mut *out, 0, n, c.fill);
-    let written = call.normalise(p, &mut out[0..room]);
-    wrote(c, written, want, out)
+    match call.normalise(p, &mut out[..c.room]) {
+        Some(written) => wrote(c, written, want, out),
+        None => false,
+    }
 }
