@@ -3,8 +3,8 @@
 
 ghost use Rattle.std.specs.Prelude.{◌≡◌, length};
 
-use frame::{Frame, FrameRead};
-use vectors_case::{Case, byte, put, u16_bytes, wrote};
+use frame::Frame;
+use vectors_case::{Case, byte, fill_up, u16_bytes, wrote};
 
 // The bytes before the payload in a frame, and of the fields in an output and in an input.
 const HEAD: usize = 6;
@@ -15,25 +15,12 @@ const GIVEN: usize = 4;
 
 // The bytes from one index up to another; none if there are no such bytes.
 fn part(s: &[u8], from: usize, to: usize) -> &[u8] {
-    if to < from {
-        return &s[..0];
-    }
-    if s.len() < to {
-        return &s[..0];
-    }
-    &s[from..to]
+    s.get(from..to).unwrap_or(&[])
 }
 
 // All but the first n and the last m bytes; none if there are no others.
 fn between(s: &[u8], n: usize, m: usize) -> &[u8] {
-    if s.len() < m {
-        return &s[..0];
-    }
-    part(s, n, s.len() - m)
-}
-
-fn flag(is_set: bool) -> u8 {
-    if is_set { 1 } else { 0 }
+    part(s, n, s.len().saturating_sub(m))
 }
 
 fn record(f: &[u8], code: u8) -> Frame {
@@ -56,11 +43,17 @@ fn is_inside(c: Case, f: &[u8]) -> bool {
 // Whether the reader gives the wanted fields, or the wanted refusal.
 fn is_read(c: Case, f: &[u8], want: &[u8]) -> bool {
     match Frame::decode(f) {
-        FrameRead::Refused(e) => want.len() == 0 && c.refuses(e),
-        FrameRead::Read(r) => {
-            let fields = [r.address, flag(r.reply), r.sequence, flag(r.crc), r.code];
-            c.row == 0 && fields.as_slice() == part(want, 0, FIELDS)
+        Ok(r) => {
+            let fields = [
+                r.address,
+                u8::from(r.reply),
+                r.sequence,
+                u8::from(r.crc),
+                r.code,
+            ];
+            c.wanted.is_ok() && fields.as_slice() == part(want, 0, FIELDS)
         }
+        Err(e) => want.is_empty() && c.refuses(e),
     }
 }
 
@@ -68,13 +61,10 @@ fn is_read(c: Case, f: &[u8], want: &[u8]) -> bool {
 fn is_written(c: Case, r: Frame, payload: &[u8], want: &[u8], out: &mut [u8]) -> bool
     ensures { length out.new ≡ length out.old }
 {
-    let n = out.len();
-    let room = c.room;
-    if n < room {
+    if !fill_up(c, &mut *out) {
         return false;
     }
-    put(&mut *out, 0, n, c.fill);
-    let written = r.encode(payload, &mut out[0..room]);
+    let written = r.encode(payload, &mut out[..c.room]);
     wrote(c, written, want, out)
 }
 
@@ -86,7 +76,7 @@ fn read(c: Case, f: &[u8], want: &[u8], out: &mut [u8]) -> bool
         && is_read(c, f, want)
         && is_inside(c, f)
         && Frame::payload(f) == between(want, FIELDS, 0);
-    if c.row != 0 {
+    if c.wanted.is_err() {
         return is_right;
     }
     is_right && is_written(c, record(want, c.code), Frame::payload(f), f, out)
