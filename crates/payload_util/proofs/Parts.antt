@@ -17,10 +17,6 @@ use Rattle.payload_util.specs.declared.Refusal.{Refusal}
 pub part_to_end : (p : List ℕ) (at : ℕ) → take (length p - at) (drop at p) ≡ drop at p
 part_to_end p at = take_all (length p - at) (drop at p) (simp length-drop (omega arith))
 
--- e is the block d with s at its front
-pub front : (d s e : List ℕ) → e ≡ paste d 0 s (length s) → take (length s) e ≡ s
-front d s e p = simp (p, take-length, zero-add, take-append_seam)
-
 -- d is the buffer with the head, and e is d with the tail after it
 pub two_parts : (code : ℕ) (h t out d e : List ℕ) → room code (length h + length t) (length out) ≡ Pass
     → d ≡ paste out 0 h (length h) → e ≡ paste d (length h) t (length t)
