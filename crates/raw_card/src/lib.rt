@@ -7,8 +7,8 @@ ghost use Rattle.raw_card.specs.Raw.{bytes_for, raw, all_bits, write_bits};
 ghost use Rattle.raw_card.specs.Fmt.{fmt};
 
 use payload_util::{
-    Payload, Record, Refusal, byte_at, high_byte, low_byte, put_bytes, put_payload,
-    require_head_and_tail, require_room, require_tail_len, tail_where, u16_at,
+    Payload, Record, Refusal, byte_at, put_bytes, put_payload, require_head_and_tail, require_room,
+    require_tail_len, tail_where, u16_at,
 };
 
 // The fixed fields; the bits are the tail.
@@ -73,17 +73,13 @@ impl Raw {
     {
         let count = self.bit_count;
         require_tail_len(bits, bytes_for(count) as usize, Self::CODE)?;
-        let head = [
-            self.reader,
-            self.format_code,
-            low_byte(count),
-            high_byte(count),
-        ];
+        let [low, high] = count.to_le_bytes();
+        let head = [self.reader, self.format_code, low, high];
         put_bytes(&head, bits, Self::CODE, out)
     }
 
     // Writes a byte, 0 or 1, for each bit up to the count, highest bit first. If the bytes have fewer bits than the count, writes those.
-    #[tactic(auto, using(payload_util::proofs::Guards::passed, payload_util::proofs::Guards::room_pass))]
+    #[tactic(auto, using(payload_util::proofs::Guards::room_pass))]
     pub fn iter_bits(self, bits: &[u8], out: &mut [u8]) -> Result<usize, Refusal>
         ensures { (result, out.new) ≡ write_bits self bits.now out.old }
     {
