@@ -11,11 +11,11 @@ use lib.Dec.{leb}
 use lib.ListN.{length, take, drop, length-drop, take-append-drop, drop_of_length-le}
 use lib.Seq.{length-take-le, take-add, drop-cons}
 use Rattle.payload_util.specs.Bytes.{Bytes, byte_at, u16_at}
-use Rattle.payload_util.specs.declared.Guard.TheVariants.{Pass}
 use Rattle.payload_util.proofs.Words.{low_byte, high_byte}
 use Rattle.payload_util.proofs.Parts.{by_head}
 use Rattle.frame.specs.Frame.{asks_crc, check_over, check_len, check_bytes, check_at, fields_of, payload_in, frame_len, refuse_frame, head_bytes, frame_bytes}
 use Rattle.frame.proofs.Laws.{Accepted, long}
+use Rattle.payload_util.specs.Refusals.{Pass}
 
 -- a byte put together again from its top part and the rest
 address_back : (t : Bool) (b : ℕ) → leb 128 b ≡ t → b < 256 → b % 128 + cond t 128 0 ≡ b

@@ -8,23 +8,23 @@ use Prim.Native.Nat.{ℕ}
 use native.Mathlib.Omega.{arith}
 use lib.ListN.{length}
 use Rattle.payload_util.specs.Bytes.{byte_at}
-use Rattle.payload_util.specs.Refusals.{row, require, ◌also◌}
+use Rattle.payload_util.specs.Refusals.{require, ◌also◌, Outcome, Guard, refusal}
 use Rattle.payload_util.specs.Guards.{at_least, declared_len, room}
-use Rattle.payload_util.specs.Outcome.{Outcome, gives, refuses, outcome, guard_of}
+use Rattle.payload_util.specs.Outcome.{outcome, guard_of}
 use Rattle.payload_util.specs.Writing.{effect}
 use Rattle.payload_util.specs.declared.Refusal.{Refusal}
-use Rattle.payload_util.specs.declared.Guard.{Guard}
-use Rattle.payload_util.specs.declared.Guard.TheVariants.{Pass, Refused}
-use Rattle.payload_util.specs.declared.Written.TheVariants.{Refused as NotWritten}
-use Rattle.codes.specs.{CommandCode.read_command, ReplyCode.read_reply}
+use Rattle.codes.specs.CommandCode.{read_command}
+use Rattle.codes.specs.ReplyCode.{read_reply}
 use Rattle.codes.proofs.Laws.{command_one, reply_one}
 use Rattle.frame.specs.declared.Frame.{Frame}
 use Rattle.frame.specs.Frame.{right_check, known_code, front, control, check_frame, fields_of, frame_len, refuse_frame, frame_bytes}
 use Rattle.frame.specs.Promises.{CodeBytes}
+use Rattle.std.specs.Prelude.{Ok, Err}
+use Rattle.payload_util.specs.declared.Row.TheVariants.{UnknownCommand, UnknownReply}
 
 -- each refusal of a guard is such
 unfoldable Each : (Refusal → Type 0) → Guard → Type 0
-Each P g = (e : Refusal) → g ≡ Refused e → P e
+Each P g = (e : Refusal) → g ≡ Err e → P e
 
 module _ (P : Refusal → Type 0) where
   by_row : (b : Bool) (x : Refusal) → P x → Each P (require b x)
@@ -34,37 +34,37 @@ module _ (P : Refusal → Type 0) where
 
   by_both : (g h : Guard) → Each P g → Each P h → Each P (g also h)
   unfolding Each
-  by_both Pass h a b e q = b e q
-  by_both (Refused x) h a b e q = a e q
+  by_both (Ok _) h a b e q = b e q
+  by_both (Err x) h a b e q = a e q
 
-  by_code : {C : Type 0} (o : Outcome C) → ((x : Refusal) → o ≡ refuses x → P x) → Each P (guard_of o)
+  by_code : {C : Type 0} (o : Outcome C) → ((x : Refusal) → o ≡ Err x → P x) → Each P (guard_of o)
   unfolding Each
-  by_code (gives c) h e q = let z : ◌≡◌ {A = ℕ} 0 1 = cc in absurd (omega arith)
-  by_code (refuses x) h e q = let s : x ≡ e = cc in rw (← s) (h x refl)
+  by_code (Ok c) h e q = let z : ◌≡◌ {A = ℕ} 0 1 = cc in absurd (omega arith)
+  by_code (Err x) h e q = let s : x ≡ e = cc in rw (← s) (h x refl)
 
 -- what a code table refuses, it refuses by its row
-command_row : (b : ℕ) (x : Refusal) → read_command b ≡ refuses x → x ≡ row 1 b 0 0
+command_row : (b : ℕ) (x : Refusal) → read_command b ≡ Err x → x ≡ refusal UnknownCommand b 0 0
 command_row b x q =
     elim (command_one b) [
       | inl (c, p, u) ↦ let z : ◌≡◌ {A = ℕ} 0 1 = cc in absurd (omega arith)
       | inr (p, u) ↦ cc
     ]
 
-reply_row : (b : ℕ) (x : Refusal) → read_reply b ≡ refuses x → x ≡ row 2 b 0 0
+reply_row : (b : ℕ) (x : Refusal) → read_reply b ≡ Err x → x ≡ refusal UnknownReply b 0 0
 reply_row b x q =
     elim (reply_one b) [
       | inl (c, p, u) ↦ let z : ◌≡◌ {A = ℕ} 0 1 = cc in absurd (omega arith)
       | inr (p, u) ↦ cc
     ]
 
-unknown : (P : Refusal → Type 0) (reply : Bool) (b : ℕ) → P (row 1 b 0 0) → P (row 2 b 0 0) → Each P (known_code reply b)
+unknown : (P : Refusal → Type 0) (reply : Bool) (b : ℕ) → P (refusal UnknownCommand b 0 0) → P (refusal UnknownReply b 0 0) → Each P (known_code reply b)
 unfolding known_code
 unknown P true b p q = by_code P (read_reply b) (λ x h. rw (reply_row b x h) q)
 unknown P false b p q = by_code P (read_command b) (λ x h. rw (command_row b x h) p)
 
 module _ (f : List ℕ) where
   abbrev Read : Refusal → Type 0
-  Read e = (e.code ≡ 0) ⊎ (e ≡ row 1 (byte_at f 5) 0 0) ⊎ (e ≡ row 2 (byte_at f 5) 0 0)
+  Read e = (e.code ≡ 0) ⊎ (e ≡ refusal UnknownCommand (byte_at f 5) 0 0) ⊎ (e ≡ refusal UnknownReply (byte_at f 5) 0 0)
 
   reading : Each Read (check_frame f)
   unfolding check_frame front control right_check at_least declared_len
@@ -79,13 +79,13 @@ module _ (r : Frame) (n given : ℕ) where
   writing len = search (by_both Own, by_row Own, unknown Own)
 
 -- a refusal is that of the checks
-refuses_is : {A : Type 0} (g : Guard) (a : A) (e : Refusal) → outcome g a ≡ refuses e → g ≡ Refused e
-refuses_is Pass a e q = let z : ◌≡◌ {A = ℕ} 0 1 = cc in absurd (omega arith)
-refuses_is (Refused x) a e q = cc
+refuses_is : {A : Type 0} (g : Guard) (a : A) (e : Refusal) → outcome g a ≡ Err e → g ≡ Err e
+refuses_is (Ok _) a e q = let z : ◌≡◌ {A = ℕ} 0 1 = cc in absurd (omega arith)
+refuses_is (Err x) a e q = cc
 
-not_written_is : (g : Guard) (bs out : List ℕ) (e : Refusal) → (effect g bs out).0 ≡ NotWritten e → g ≡ Refused e
-not_written_is Pass bs out e q = let z : ◌≡◌ {A = ℕ} 0 1 = cc in absurd (omega arith)
-not_written_is (Refused x) bs out e q = cc
+not_written_is : (g : Guard) (bs out : List ℕ) (e : Refusal) → (effect g bs out).0 ≡ Err e → g ≡ Err e
+not_written_is (Ok _) bs out e q = let z : ◌≡◌ {A = ℕ} 0 1 = cc in absurd (omega arith)
+not_written_is (Err x) bs out e q = cc
 
 pub code_bytes : CodeBytes
 unfolding Each

@@ -2,7 +2,8 @@
 -- Assumes nothing.
 use mathlib.Core.Path.{refl}
 use Rattle.payload_util.specs.Guards.{at_least, declared_len, room}
-use Rattle.codes.specs.{CommandCode.read_command, ReplyCode.read_reply}
+use Rattle.codes.specs.CommandCode.{read_command}
+use Rattle.codes.specs.ReplyCode.{read_reply}
 use Rattle.crc.specs.Crc.{crc_bit, crc_bits, crc_byte}
 use Rattle.frame.specs.Frame.{check_over, right_check, known_code, front, control, check_frame, refuse_frame}
 use Rattle.frame.specs.Examples.{Published, InOrder, WriterInOrder}

@@ -10,12 +10,12 @@ use lib.Dec.{leb}
 use lib.ListN.{length, get_or, take, length-append}
 use lib.Seq.{take_at, get_or-append_seam, get_or-append-add}
 use Rattle.payload_util.specs.Bytes.{u16_at}
-use Rattle.payload_util.specs.Outcome.{gives}
-use Rattle.payload_util.specs.declared.Guard.TheVariants.{Pass}
 use Rattle.crc.proofs.Laws.{crc_lt}
 use Rattle.frame.specs.declared.Frame.{Frame}
 use Rattle.frame.specs.Frame.{crc_start, check_over, check_len, check_bytes, check_at, check_frame, read_frame, frame_payload, frame_len, refuse_frame, body_bytes, frame_bytes}
 use Rattle.frame.proofs.Laws.{accepts, Writable, writable}
+use Rattle.std.specs.Prelude.{Ok}
+use Rattle.payload_util.specs.Refusals.{Pass}
 
 -- a number of two bytes at a list's end, and of one
 u16_at_end : (s : List ℕ) (x y n : ℕ) → n ≡ length s → u16_at (s ++ x ∷ y ∷ []) n ≡ x + 256 * y
@@ -83,7 +83,7 @@ module _ (r : Frame) (p : List ℕ) (e : refuse_frame r (frame_len r p) ≡ Pass
         known = rw top.0 w.known;
       })
 
-  pub forth : read_frame (frame_bytes r p) ≡ gives r
+  pub forth : read_frame (frame_bytes r p) ≡ Ok r
   forth = rw (passes, top.0, top.1, ctl.0, ctl.1)
 
   pub forth_payload : frame_payload (frame_bytes r p) ≡ p

@@ -2,21 +2,23 @@
 -- Assumes nothing.
 use mathlib.Core.Path.{◌≡◌}
 use mathlib.Core.Bool.{Bool, true, false}
-use mathlib.Core.List.{List}
+use mathlib.Core.List.{List, [], ◌++◌, append-nil}
 use Prim.Native.Nat.{ℕ, ◌+◌, ◌≤◌, ◌<◌}
 use native.Mathlib.Omega.{arith}
 use borrow.Author.Tests.{ltb-true, leb-true, eqb-true, lt-ltb, le-leb, eq-eqb}
 use lib.Dec.{ltb, leb, eqb}
 use lib.ListN.{length, take}
 use Rattle.payload_util.specs.Bytes.{byte_at, u16_at}
-use Rattle.payload_util.specs.Refusals.{row, require}
+use Rattle.payload_util.specs.Refusals.{require, Pass, refusal}
 use Rattle.payload_util.specs.Guards.{at_least, declared_len}
-use Rattle.payload_util.specs.declared.Guard.TheVariants.{Pass}
 use Rattle.payload_util.proofs.Guards.{check_pass, also_pass, least_pass, pass_least, declared_pass}
 use Rattle.frame.specs.declared.Frame.{Frame}
 use Rattle.frame.specs.Frame.{som, longest, is_reply, asks_crc, check_over, check_len, check_at, right_check, known_code, front, control, check_frame, refuse_frame}
+use Rattle.payload_util.specs.declared.Row.TheVariants.{FrameTooLong, NotAFrame}
 
--- ---- reading
+-- a check over two parts, if the second is empty
+pub check_alone : (crc : Bool) (s : List ℕ) → check_over crc (s ++ []) ≡ check_over crc s
+check_alone crc s = rw append-nil
 
 pub record Accepted (f : List ℕ) : Type 0 where
   pub begins : byte_at f 0 ≡ som
@@ -32,10 +34,10 @@ unfolding check_frame front control right_check
 accepted f e =
     let a = also_pass (front f) _ e in
     let least = also_pass (at_least 7 0 f) _ a.0 in
-    let begins = also_pass (require (eqb (byte_at f 0) som) (row 20 0 0 0)) _ least.1 in
-    let short = also_pass (require (leb (length f) longest) (row 22 0 0 0)) _ begins.1 in
+    let begins = also_pass (require (eqb (byte_at f 0) som) (refusal NotAFrame 0 0 0)) _ least.1 in
+    let short = also_pass (require (leb (length f) longest) (refusal FrameTooLong 0 0 0)) _ begins.1 in
     let b = also_pass (control f) _ a.1 in
-    let plain = also_pass (require (ltb (byte_at f 4) 8) (row 20 0 0 0)) _ b.0 in
+    let plain = also_pass (require (ltb (byte_at f 4) 8) (refusal NotAFrame 0 0 0)) _ b.0 in
     let room = also_pass (at_least (6 + check_len (asks_crc f)) 0 f) _ plain.1 in
     record {
       begins = eqb-true _ _ (check_pass _ _ begins.0);
@@ -69,8 +71,6 @@ pub front_long : (f : List ℕ) → front f ≡ Pass → 7 ≤ length f
 unfolding front
 front_long f e = least_pass 7 0 f (also_pass _ _ e).0
 
--- ---- writing
-
 pub record Writable (r : Frame) (len : ℕ) : Type 0 where
   pub address : r.address < 128
   pub sequence : r.sequence < 4
@@ -80,8 +80,8 @@ pub record Writable (r : Frame) (len : ℕ) : Type 0 where
 pub writable : (r : Frame) (len : ℕ) → refuse_frame r len ≡ Pass → Writable r len
 unfolding refuse_frame
 writable r len e =
-    let address = also_pass (require (ltb r.address 128) (row 20 r.code 0 0)) _ e in
-    let sequence = also_pass (require (ltb r.sequence 4) (row 20 r.code 0 0)) _ address.1 in
+    let address = also_pass (require (ltb r.address 128) (refusal NotAFrame r.code 0 0)) _ e in
+    let sequence = also_pass (require (ltb r.sequence 4) (refusal NotAFrame r.code 0 0)) _ address.1 in
     let known = also_pass (known_code r.reply r.code) _ sequence.1 in
     record {
       address = ltb-true _ _ (check_pass _ _ address.0);
@@ -89,3 +89,7 @@ writable r len e =
       known = known.0;
       short = leb-true _ _ (check_pass _ _ known.1);
     }
+
+-- the fields and the length fit
+pub writable_fits : (r : Frame) (len : ℕ) → refuse_frame r len ≡ Pass → (r.address < 128) × (r.sequence < 4) × (len < 65536)
+writable_fits r len e = let w = writable r len e in (w.address, w.sequence, omega (arith, w.short))

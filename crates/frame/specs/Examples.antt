@@ -1,17 +1,17 @@
 -- Frames with their answers: published ones, one for each refusal, and pairs of faults of which the earlier row is given.
-use Rattle.std.specs.Prelude.{Bool, true, false, replicate, ◌≡◌, List, [], ◌∷◌, ◌++◌, ℕ}
-use Rattle.payload_util.specs.Prelude.{row, gives, refuses}
-use Rattle.payload_util.specs.declared.{Refusal.Refusal}
-use Rattle.payload_util.specs.declared.Written.TheVariants.{Wrote, Refused}
+use Rattle.std.specs.Prelude.{Bool, true, false, replicate, ◌≡◌, List, [], ◌∷◌, ◌++◌, ℕ, Ok, Err}
+use Rattle.payload_util.specs.declared.Refusal.{Refusal}
 use Rattle.frame.specs.declared.Frame.{Frame}
 use Rattle.frame.specs.Frame.{read_frame, frame_payload, write_frame}
+use Rattle.payload_util.specs.Refusals.{refusal}
+use Rattle.payload_util.specs.declared.Row.TheVariants.{BufferTooShort, DeclaredLength, FrameTooLong, NotAFrame, PayloadTooShort, UnknownCommand, UnknownReply, WrongCheck}
 
 abbrev pub frame : ℕ → Bool → ℕ → Bool → ℕ → Frame
 frame address reply sequence crc code = record { address = address; reply = reply; sequence = sequence; crc = crc; code = code }
 
 -- a frame reads as a record and a payload, and these are written as the frame
 abbrev pub Both : List ℕ → Frame → List ℕ → ℕ → Type 0
-Both f r p n = (read_frame f ≡ gives r) × (frame_payload f ≡ p) × (write_frame r p (replicate n 0 ++ 0xA5 ∷ []) ≡ (Wrote n, f ++ 0xA5 ∷ []))
+Both f r p n = (read_frame f ≡ Ok r) × (frame_payload f ≡ p) × (write_frame r p (replicate n 0 ++ 0xA5 ∷ []) ≡ (Ok n, f ++ 0xA5 ∷ []))
 
 abbrev pub Published : Type 0
 Published =
@@ -23,39 +23,39 @@ Published =
 
 -- the reader refuses, and there is no payload
 abbrev pub IsRefused : List ℕ → Refusal → Type 0
-IsRefused f e = (read_frame f ≡ refuses e) × (frame_payload f ≡ [])
+IsRefused f e = (read_frame f ≡ Err e) × (frame_payload f ≡ [])
 
 -- each frame has the fault of its row and of the next line's too
 abbrev pub InOrder : Type 0
 InOrder =
-    IsRefused [] (row 4 0 7 0)
-    × IsRefused (0x52 ∷ 0 ∷ 0 ∷ 0 ∷ 8 ∷ 0 ∷ []) (row 4 0 7 6)
-    × IsRefused (0x52 ∷ replicate 1440 0) (row 20 0 0 0)
-    × IsRefused (0x53 ∷ replicate 1440 0) (row 22 0 0 0)
+    IsRefused [] (refusal PayloadTooShort 0 7 0)
+    × IsRefused (0x52 ∷ 0 ∷ 0 ∷ 0 ∷ 8 ∷ 0 ∷ []) (refusal PayloadTooShort 0 7 6)
+    × IsRefused (0x52 ∷ replicate 1440 0) (refusal NotAFrame 0 0 0)
+    × IsRefused (0x53 ∷ replicate 1440 0) (refusal FrameTooLong 0 0 0)
     -- one byte less is not too long
-    × IsRefused (0x53 ∷ 0 ∷ 0 ∷ 0 ∷ 8 ∷ replicate 1435 0) (row 6 0 0 0)
-    × IsRefused (0x53 ∷ 0 ∷ 8 ∷ 0 ∷ 8 ∷ 0 ∷ 0 ∷ []) (row 6 0 0 0)
-    × IsRefused (0x53 ∷ 0 ∷ 7 ∷ 1 ∷ 8 ∷ 0 ∷ 0 ∷ []) (row 6 0 0 0)
-    × IsRefused (0x53 ∷ 0 ∷ 7 ∷ 0 ∷ 12 ∷ 0 ∷ 0 ∷ []) (row 20 0 0 0)
-    × IsRefused (0x53 ∷ 0 ∷ 7 ∷ 0 ∷ 128 ∷ 0 ∷ 0 ∷ []) (row 20 0 0 0)
-    × IsRefused (0x53 ∷ 0 ∷ 7 ∷ 0 ∷ 4 ∷ 0 ∷ 0 ∷ []) (row 4 0 8 7)
-    × IsRefused (0x53 ∷ 0 ∷ 7 ∷ 0 ∷ 0 ∷ 0x63 ∷ 0 ∷ []) (row 21 0 0 0)
+    × IsRefused (0x53 ∷ 0 ∷ 0 ∷ 0 ∷ 8 ∷ replicate 1435 0) (refusal DeclaredLength 0 0 0)
+    × IsRefused (0x53 ∷ 0 ∷ 8 ∷ 0 ∷ 8 ∷ 0 ∷ 0 ∷ []) (refusal DeclaredLength 0 0 0)
+    × IsRefused (0x53 ∷ 0 ∷ 7 ∷ 1 ∷ 8 ∷ 0 ∷ 0 ∷ []) (refusal DeclaredLength 0 0 0)
+    × IsRefused (0x53 ∷ 0 ∷ 7 ∷ 0 ∷ 12 ∷ 0 ∷ 0 ∷ []) (refusal NotAFrame 0 0 0)
+    × IsRefused (0x53 ∷ 0 ∷ 7 ∷ 0 ∷ 128 ∷ 0 ∷ 0 ∷ []) (refusal NotAFrame 0 0 0)
+    × IsRefused (0x53 ∷ 0 ∷ 7 ∷ 0 ∷ 4 ∷ 0 ∷ 0 ∷ []) (refusal PayloadTooShort 0 8 7)
+    × IsRefused (0x53 ∷ 0 ∷ 7 ∷ 0 ∷ 0 ∷ 0x63 ∷ 0 ∷ []) (refusal WrongCheck 0 0 0)
     -- the two bytes of a CRC exchanged
-    × IsRefused (0x53 ∷ 0x00 ∷ 0x08 ∷ 0x00 ∷ 0x04 ∷ 0x60 ∷ 0xAA ∷ 0xEB ∷ []) (row 21 0 0 0)
-    × IsRefused (0x53 ∷ 0 ∷ 7 ∷ 0 ∷ 0 ∷ 0x63 ∷ 0x43 ∷ []) (row 1 0x63 0 0)
+    × IsRefused (0x53 ∷ 0x00 ∷ 0x08 ∷ 0x00 ∷ 0x04 ∷ 0x60 ∷ 0xAA ∷ 0xEB ∷ []) (refusal WrongCheck 0 0 0)
+    × IsRefused (0x53 ∷ 0 ∷ 7 ∷ 0 ∷ 0 ∷ 0x63 ∷ 0x43 ∷ []) (refusal UnknownCommand 0x63 0 0)
     -- a command's code in a reply
-    × IsRefused (0x53 ∷ 0x80 ∷ 7 ∷ 0 ∷ 0 ∷ 0x60 ∷ 0xC6 ∷ []) (row 2 0x60 0 0)
+    × IsRefused (0x53 ∷ 0x80 ∷ 7 ∷ 0 ∷ 0 ∷ 0x60 ∷ 0xC6 ∷ []) (refusal UnknownReply 0x60 0 0)
 
 -- the writer refuses, and leaves the buffer as it was
 abbrev pub NotWritten : Frame → List ℕ → Refusal → Type 0
-NotWritten r p e = write_frame r p (0xA5 ∷ []) ≡ (Refused e, 0xA5 ∷ [])
+NotWritten r p e = write_frame r p (0xA5 ∷ []) ≡ (Err e, 0xA5 ∷ [])
 
 abbrev pub WriterInOrder : Type 0
 WriterInOrder =
-    NotWritten (frame 128 false 0 false 0x63) [] (row 20 0x63 0 0)
-    × NotWritten (frame 127 false 4 false 0x63) [] (row 20 0x63 0 0)
-    × NotWritten (frame 127 false 3 false 0x63) (replicate 1434 0) (row 1 0x63 0 0)
-    × NotWritten (frame 127 true 3 false 0x60) (replicate 1434 0) (row 2 0x60 0 0)
-    × NotWritten (frame 127 false 3 false 0x60) (replicate 1434 0) (row 22 0x60 0 0)
-    × NotWritten (frame 127 false 3 true 0x60) (replicate 1433 0) (row 22 0x60 0 0)
-    × NotWritten (frame 127 false 3 true 0x60) (replicate 1432 0) (row 15 0x60 1440 1)
+    NotWritten (frame 128 false 0 false 0x63) [] (refusal NotAFrame 0x63 0 0)
+    × NotWritten (frame 127 false 4 false 0x63) [] (refusal NotAFrame 0x63 0 0)
+    × NotWritten (frame 127 false 3 false 0x63) (replicate 1434 0) (refusal UnknownCommand 0x63 0 0)
+    × NotWritten (frame 127 true 3 false 0x60) (replicate 1434 0) (refusal UnknownReply 0x60 0 0)
+    × NotWritten (frame 127 false 3 false 0x60) (replicate 1434 0) (refusal FrameTooLong 0x60 0 0)
+    × NotWritten (frame 127 false 3 true 0x60) (replicate 1433 0) (refusal FrameTooLong 0x60 0 0)
+    × NotWritten (frame 127 false 3 true 0x60) (replicate 1432 0) (refusal BufferTooShort 0x60 1440 1)

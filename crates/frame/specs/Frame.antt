@@ -1,12 +1,14 @@
 -- A frame (R102): 0x53, address, whole length u16, control, code, payload, check.
 use Rattle.std.specs.Prelude.{Bool, ◌-◌, List, [], ◌∷◌, ◌++◌, ℕ, ◌+◌, ◌/◌, ◌%◌, cond, length, take, drop, eqb, leb, ltb}
-use Rattle.payload_util.specs.Prelude.{byte_at, u16_at, u16_bytes, row, require, ◌also◌}
-use Rattle.payload_util.specs.Prelude.{Outcome, gives, refuses, outcome, guard_of, tail_where, Effect, put_checked}
+use Rattle.payload_util.specs.Prelude.{byte_at, u16_at, u16_bytes, require, ◌also◌, Outcome, outcome, guard_of, tail_where, Effect, put_checked}
 use Rattle.payload_util.specs.Guards.{at_least, declared_len}
-use Rattle.payload_util.specs.declared.Guard.{Guard}
-use Rattle.codes.specs.{CommandCode.read_command, ReplyCode.read_reply}
-use Rattle.crc.specs.{Crc.crc_of, Sum.sum_of, Sum.twos_complement}
-use Rattle.frame.specs.declared.{Frame.Frame, FrameRead.FrameRead, FrameRead.TheVariants.Read, FrameRead.TheVariants.Refused}
+use Rattle.codes.specs.CommandCode.{read_command}
+use Rattle.codes.specs.ReplyCode.{read_reply}
+use Rattle.crc.specs.Crc.{crc_of}
+use Rattle.crc.specs.Sum.{sum_of, twos_complement}
+use Rattle.frame.specs.declared.Frame.{Frame}
+use Rattle.payload_util.specs.Refusals.{Guard, refusal}
+use Rattle.payload_util.specs.declared.Row.TheVariants.{FrameTooLong, NotAFrame, WrongCheck}
 
 -- the first byte of every frame, the house limit, and what the CRC starts from
 abbrev pub som : ℕ
@@ -46,7 +48,7 @@ check_at crc f = length f - check_len crc
 
 -- row 21: the bytes from there on, of which `u16_at` counts one past the end as 0, are the check of all earlier bytes
 unfoldable pub right_check : Bool → List ℕ → Guard
-right_check crc f = require (eqb (u16_at f (check_at crc f)) (check_over crc (take (check_at crc f) f))) (row 21 0 0 0)
+right_check crc f = require (eqb (u16_at f (check_at crc f)) (check_over crc (take (check_at crc f) f))) (refusal WrongCheck 0 0 0)
 
 -- rows 1 and 2: the code is in the table that the address picks
 unfoldable pub known_code : Bool → ℕ → Guard
@@ -56,22 +58,18 @@ known_code reply b = cond reply (guard_of (read_reply b)) (guard_of (read_comman
 unfoldable pub front : List ℕ → Guard
 front f =
     at_least 7 0 f
-    also require (eqb (byte_at f 0) som) (row 20 0 0 0)
-    also require (leb (length f) longest) (row 22 0 0 0)
+    also require (eqb (byte_at f 0) som) (refusal NotAFrame 0 0 0)
+    also require (leb (length f) longest) (refusal FrameTooLong 0 0 0)
     also declared_len (u16_at f 2) 0 f
 
 unfoldable pub control : List ℕ → Guard
 control f =
-    require (ltb (byte_at f 4) 8) (row 20 0 0 0)
+    require (ltb (byte_at f 4) 8) (refusal NotAFrame 0 0 0)
     also at_least (6 + check_len (asks_crc f)) 0 f
     also right_check (asks_crc f) f
 
 unfoldable pub check_frame : List ℕ → Guard
 check_frame f = front f also control f also known_code (is_reply f) (byte_at f 5)
-
-abbrev pub frame_outcome : FrameRead → Outcome Frame
-frame_outcome (Read r) = gives r
-frame_outcome (Refused e) = refuses e
 
 abbrev pub read_frame : List ℕ → Outcome Frame
 read_frame f = outcome (check_frame f) (fields_of f)
@@ -90,10 +88,10 @@ frame_len r p = 6 + length p + check_len r.crc
 -- what a writer refuses, in this order, if the frame would have so many bytes; lack of room comes last
 unfoldable pub refuse_frame : Frame → ℕ → Guard
 refuse_frame r len =
-    require (ltb r.address 128) (row 20 r.code 0 0)
-    also require (ltb r.sequence 4) (row 20 r.code 0 0)
+    require (ltb r.address 128) (refusal NotAFrame r.code 0 0)
+    also require (ltb r.sequence 4) (refusal NotAFrame r.code 0 0)
     also known_code r.reply r.code
-    also require (leb len longest) (row 22 r.code 0 0)
+    also require (leb len longest) (refusal FrameTooLong r.code 0 0)
 
 -- the bytes before the payload, in a frame of so many bytes
 abbrev pub head_bytes : Frame → ℕ → List ℕ

@@ -2,16 +2,15 @@
 #![tactic(auto)]
 
 ghost use Rattle.std.specs.Prelude.{◌≡◌, ◌++◌, ◌+◌, ◌≤◌, ◌<◌, cond, length};
-ghost use Rattle.frame.specs.Frame.{known_code, check_len, check_over, right_check, front, control, check_frame, fields_of, frame_outcome, read_frame, payload_in, frame_payload, head_bytes, refuse_frame, write_frame};
+ghost use Rattle.frame.specs.Frame.{known_code, check_len, check_over, right_check, front, control, check_frame, fields_of, read_frame, payload_in, frame_payload, head_bytes, refuse_frame, write_frame};
 
-use codes::{CommandCode, CommandCodeRead, ReplyCode, ReplyCodeRead};
+use codes::{CommandCode, ReplyCode};
 use payload_util::{
-    Guard, Refusal, Written, high_byte, low_byte, put_parts, require, require_at_least,
-    require_declared_len, u16_at,
+    Refusal, Row, put_parts, require, require_at_least, require_declared_len, u16_at,
 };
 
 // What a frame says beside its payload.
-#[derive(Clone, Copy)]
+#[derive(Clone, Copy, Debug, PartialEq, Eq)]
 pub struct Frame {
     // 0 to 127
     pub address: u8,
@@ -24,28 +23,17 @@ pub struct Frame {
     pub code: u8,
 }
 
-#[derive(Clone, Copy)]
-pub enum FrameRead {
-    Read(Frame),
-    Refused(Refusal),
-}
-
 // Rows 1 and 2: the code is in the table of replies, or of commands.
 #[tactic(auto, unfolding(crate::specs::Frame::known_code))]
-fn require_code(reply: bool, code: u8) -> Guard
+fn require_code(reply: bool, code: u8) -> Result<(), Refusal>
     ensures { result ≡ known_code reply code }
 {
     if reply {
-        match ReplyCode::from_byte(code) {
-            ReplyCodeRead::Read(_) => Guard::Pass,
-            ReplyCodeRead::Refused(e) => Guard::Refused(e),
-        }
+        ReplyCode::from_byte(code)?;
     } else {
-        match CommandCode::from_byte(code) {
-            CommandCodeRead::Read(_) => Guard::Pass,
-            CommandCodeRead::Refused(e) => Guard::Refused(e),
-        }
+        CommandCode::from_byte(code)?;
     }
+    Ok(())
 }
 
 // How many bytes the check has.
@@ -74,13 +62,17 @@ fn check_over(crc: bool, head: &[u8], payload: &[u8]) -> u16
 }
 
 // Row 21.
-fn require_check(f: &[u8], crc: bool) -> Guard
+#[tactic(auto, using(crate::proofs::Laws::check_alone), unfolding(crate::specs::Frame::right_check))]
+fn require_check(f: &[u8], crc: bool) -> Result<(), Refusal>
     requires { 2 ≤ length f.now }
     ensures { result ≡ right_check crc f.now }
 {
     let end = f.len() - check_len(crc);
     let sent = u16_at(f, end);
-    require(sent == check_over(crc, &f[..end], &[]), 21, 0, 0, 0)
+    require(
+        sent == check_over(crc, &f[..end], &[]),
+        Refusal::new(Row::WrongCheck, 0),
+    )
 }
 
 impl Frame {
@@ -96,56 +88,35 @@ impl Frame {
     pub const CRC_START: u16 = 0x1D0F;
 
     // Rows 4, 20, 22, 6.
-    #[tactic(auto, using(payload_util::proofs::Guards::passed, payload_util::proofs::Guards::stopped, payload_util::proofs::Guards::skipped, payload_util::proofs::Guards::least_pass), unfolding(crate::specs::Frame::front))]
-    fn front(f: &[u8]) -> Guard
+    #[tactic(auto, using(payload_util::proofs::Guards::least_pass), unfolding(crate::specs::Frame::front))]
+    fn front(f: &[u8]) -> Result<(), Refusal>
         ensures { result ≡ front f.now }
     {
-        let least = require_at_least(f, 7, 0);
-        let Guard::Pass = least else {
-            return least;
-        };
-        let begins = require(f[0] == Self::SOM, 20, 0, 0, 0);
-        let Guard::Pass = begins else {
-            return begins;
-        };
-        let short = require(f.len() <= Self::LONGEST, 22, 0, 0, 0);
-        let Guard::Pass = short else {
-            return short;
-        };
+        require_at_least(f, 7, 0)?;
+        require(f[0] == Self::SOM, Refusal::new(Row::NotAFrame, 0))?;
+        require(f.len() <= Self::LONGEST, Refusal::new(Row::FrameTooLong, 0))?;
         require_declared_len(f, u16_at(f, 2) as usize, 0)
     }
 
     // Rows 20, 4, 21.
-    #[tactic(auto, using(payload_util::proofs::Guards::passed, payload_util::proofs::Guards::stopped, payload_util::proofs::Guards::skipped), unfolding(crate::specs::Frame::control))]
-    fn control(f: &[u8]) -> Guard
+    #[tactic(auto, unfolding(crate::specs::Frame::control))]
+    fn control(f: &[u8]) -> Result<(), Refusal>
         requires { 7 ≤ length f.now }
         ensures { result ≡ control f.now }
     {
-        let plain = require(f[4] < 8, 20, 0, 0, 0);
-        let Guard::Pass = plain else {
-            return plain;
-        };
+        require(f[4] < 8, Refusal::new(Row::NotAFrame, 0))?;
         let crc = 4 <= f[4];
-        let least = require_at_least(f, Self::HEAD + check_len(crc), 0);
-        let Guard::Pass = least else {
-            return least;
-        };
+        require_at_least(f, Self::HEAD + check_len(crc), 0)?;
         require_check(f, crc)
     }
 
     // All refusals before the code's have code byte 0.
-    #[tactic(auto, using(payload_util::proofs::Guards::passed, payload_util::proofs::Guards::stopped, payload_util::proofs::Guards::skipped, crate::proofs::Laws::front_long), unfolding(crate::specs::Frame::check_frame))]
-    pub fn check(f: &[u8]) -> Guard
+    #[tactic(auto, using(crate::proofs::Laws::front_long), unfolding(crate::specs::Frame::check_frame))]
+    pub fn check(f: &[u8]) -> Result<(), Refusal>
         ensures { result ≡ check_frame f.now }
     {
-        let front = Self::front(f);
-        let Guard::Pass = front else {
-            return front;
-        };
-        let control = Self::control(f);
-        let Guard::Pass = control else {
-            return control;
-        };
+        Self::front(f)?;
+        Self::control(f)?;
         require_code(128 <= f[1], f[5])
     }
 
@@ -162,15 +133,12 @@ impl Frame {
         }
     }
 
-    #[tactic(auto, using(payload_util::proofs::Guards::passed, crate::proofs::Laws::checked_long))]
-    pub fn decode(f: &[u8]) -> FrameRead
-        ensures { frame_outcome result ≡ read_frame f.now }
+    #[tactic(auto, using(crate::proofs::Laws::checked_long))]
+    pub fn decode(f: &[u8]) -> Result<Frame, Refusal>
+        ensures { result ≡ read_frame f.now }
     {
-        let checked = Self::check(f);
-        let Guard::Pass = checked else {
-            return FrameRead::Refused(checked.refusal());
-        };
-        FrameRead::Read(Self::fields(f))
+        Self::check(f)?;
+        Ok(Self::fields(f))
     }
 
     // The payload in a frame that was read as self; no byte of it is looked at.
@@ -185,34 +153,27 @@ impl Frame {
     }
 
     // The payload; empty if reading refuses. It checks the whole frame again: payload_in does not.
-    #[tactic(auto, using(payload_util::proofs::Guards::passed, crate::proofs::Laws::checked_long))]
     pub fn payload(f: &[u8]) -> &[u8]
         ensures { result.now ≡ frame_payload f.now }
     {
-        let Guard::Pass = Self::check(f) else {
-            return &f[..0];
-        };
-        Self::fields(f).payload_in(f)
+        match Self::decode(f) {
+            Ok(frame) => frame.payload_in(f),
+            Err(_) => &f[..0],
+        }
     }
 
     // Rows 20, 1 or 2, 22, for a frame of so many bytes.
-    #[tactic(auto, using(payload_util::proofs::Guards::passed, payload_util::proofs::Guards::stopped, payload_util::proofs::Guards::skipped), unfolding(crate::specs::Frame::refuse_frame))]
-    fn refuse(self, len: usize) -> Guard
+    #[tactic(auto, unfolding(crate::specs::Frame::refuse_frame))]
+    fn refuse(self, len: usize) -> Result<(), Refusal>
         ensures { result ≡ refuse_frame self len }
     {
-        let address = require(self.address < 128, 20, self.code, 0, 0);
-        let Guard::Pass = address else {
-            return address;
-        };
-        let sequence = require(self.sequence < 4, 20, self.code, 0, 0);
-        let Guard::Pass = sequence else {
-            return sequence;
-        };
-        let known = require_code(self.reply, self.code);
-        let Guard::Pass = known else {
-            return known;
-        };
-        require(len <= Self::LONGEST, 22, self.code, 0, 0)
+        require(self.address < 128, Refusal::new(Row::NotAFrame, self.code))?;
+        require(self.sequence < 4, Refusal::new(Row::NotAFrame, self.code))?;
+        require_code(self.reply, self.code)?;
+        require(
+            len <= Self::LONGEST,
+            Refusal::new(Row::FrameTooLong, self.code),
+        )
     }
 
     // The bytes before the payload, in a frame of so many bytes.
@@ -220,29 +181,28 @@ impl Frame {
         requires { (self.address < 128) × (self.sequence < 4) }
         ensures { result ≡ head_bytes self len }
     {
+        let [low, high] = len.to_le_bytes();
         [
             Self::SOM,
             self.address + value_if(self.reply, 128),
-            low_byte(len),
-            high_byte(len),
+            low,
+            high,
             self.sequence + value_if(self.crc, 4),
             self.code,
         ]
     }
 
     // All refusals have self's code byte.
-    pub fn encode(self, payload: &[u8], out: &mut [u8]) -> Written
+    #[tactic(auto, using(crate::proofs::Laws::writable_fits))]
+    pub fn encode(self, payload: &[u8], out: &mut [u8]) -> Result<usize, Refusal>
         ensures { (result, out.new) ≡ write_frame self payload.now out.old }
     {
         let last = check_len(self.crc);
         let len = Self::HEAD + payload.len() + last;
-        let refused = self.refuse(len);
-        let Guard::Pass = refused else {
-            return Written::Refused(refused.refusal());
-        };
+        self.refuse(len)?;
         let head = self.head(len as u16);
         let value = check_over(self.crc, &head, payload);
-        let check = [low_byte(value), high_byte(value)];
+        let check = value.to_le_bytes();
         put_parts(&head, payload, &check[..last], self.code, out)
     }
 }
