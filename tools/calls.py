@@ -4,8 +4,9 @@
 The library is the crates of crates.txt from the first to osdp_c. A run reaches a call if main of vectors or of inspect does, directly or through
 other calls, or one of the calls for C of osdp_c, which the comparison makes. A call is `Type::name`, `module::name` or `name(`, taken apart by the
 uses of its file. `.name(` counts for the types that the calling function names or that its calls give, and those that these hold, unless there are
-more such types than places where the method is called: what is doubtful counts as not reached. A type that has a trait has what the trait itself does,
-and another name of a type has all that the type has.
+more such types than places where the method is called, in the function or in one line of it: what is doubtful counts as not reached. A type that
+has a trait has what the trait itself does. Another name of a type has all that the type has, and these are no calls of their own. `R::name` of a type
+parameter is the call of its trait, and that of the types with this trait that a caller of the function names or that its calls give.
 Prints the calls that no run reaches, and those that nobody calls.
 """
 import re
@@ -34,9 +35,14 @@ class Function:
         self.has_self = bool(re.match(r"[^(]*\(\s*(?:mut |&(?:'\w+ )?(?:mut )?)?self\b", text))
         self.gives = re.findall(TYPE, re.search(r"\)(?:\s*->([^{\n]*))?", text)[1] or "") if ")" in text else []
 
-    def of(self, owner):
+    def of(self, owner, is_public):
         """The same function under another type: one that has the trait, or another name of its type."""
-        return Function(self.place, self.name, self.text, owner, self.trait, self.is_public, self.is_for_c)
+        return Function(self.place, self.name, self.text, owner, self.trait, is_public, self.is_for_c)
+
+    def by_parameter(self):
+        """(trait, name) of each call by a type parameter."""
+        for parameter, name in set(re.findall(r"\b([A-Z])::(\w+)\(", self.text)):
+            yield from ((trait, name) for trait in re.findall(rf"[<,]\s*{parameter}: (\w+)", self.text))
 
     def label(self):
         """crate::Type::name or crate::name, as in docs/PROOF-MAP.md"""
@@ -108,17 +114,20 @@ class Calls:
         self.edges = {path: self.called_by(f) - {path} for path, f in self.functions.items()}
         for f, original in copied:
             self.edges[f.path].add(original)
+        for f in [*self.functions.values()]:
+            for trait, name in f.by_parameter():
+                self.add_by_parameter(f, self.whole(f.place, trait), name)
 
     def copies(self, impls):
         """What a trait itself does for each type that has it, and the path of the trait's."""
         for trait, owner in impls:
             for f in [f for f in self.functions.values() if f.trait == trait and f.owner.endswith(f"::{trait}")]:
                 if f"{owner}::{f.name}" not in self.functions:
-                    yield f.of(owner), f.path
+                    yield f.of(owner, f.is_public), f.path
 
     def aliases(self, names):
         """The functions of a type under another name of it, and their path under its own."""
-        return [(f.of(alias), f.path) for alias, owner in names for f in [*self.functions.values()]
+        return [(f.of(alias, False), f.path) for alias, owner in names for f in [*self.functions.values()]
                 if f.owner == owner and f"{alias}::{f.name}" not in self.functions]
 
     def whole(self, place, path, owner=None):
@@ -135,17 +144,31 @@ class Calls:
             first = f"{place}::{first}"
         return f"{first}::{rest}" if rest else first
 
-    def types_of(self, function, called):
-        """Those that a function names, its own, those that its calls give, and those that all these hold."""
-        types = {self.whole(function.place, t) for t in re.findall(TYPE, function.text)} | ({function.owner} if function.owner else set())
+    def add_by_parameter(self, function, trait, name):
+        """A call of a trait's function by a type parameter: of the trait, and from each caller of the types that it has there."""
+        self.edges[function.path] |= {f"{trait}::{name}"} & self.functions.keys()
+        for caller in [f for f in self.functions.values() if function.path in self.edges[f.path]]:
+            types = self.types_of(caller, caller.text, self.edges[caller.path])
+            named = {f"{t}::{name}" for t in types} & self.functions.keys()
+            self.edges[caller.path] |= {path for path in named if self.functions[path].trait == trait.split("::")[-1]}
+
+    def types_of(self, function, text, called):
+        """Those that a function's text, or a part of it, names; those that its calls give, and those that all these hold; of the text, its own too."""
+        types = {self.whole(function.place, t) for t in re.findall(TYPE, text)}
+        types |= {function.owner} if function.owner and text is function.text else set()
         types |= {self.whole(f.place, t, f.owner) for f in map(self.functions.get, called) for t in f.gives}
         return types | {self.whole(place, t) for place, held in map(self.held.get, types & self.held.keys()) for t in held}
 
     def called_by(self, function):
         text = function.text[function.text.index("("):]
+        parts = [(text, function.text)] + [(line, line) for line in text.splitlines()]
+        return set().union(*(self.called_in(function, part, naming) for part, naming in parts))
+
+    def called_in(self, function, text, naming):
+        """What a part of a function calls, by the types that `naming` names: the function's text, or the same part."""
         named = re.findall(r"(?<![.\w:])((?:\w+::)+\w+|\w+(?=\())", text)
         paths = {self.whole(function.place, p, function.owner) for p in named} & self.functions.keys()
-        types = self.types_of(function, paths)
+        types = self.types_of(function, naming, paths)
         for name in set(re.findall(r"\.(\w+)\(", text)):
             methods = {f"{t}::{name}" for t in types if (f := self.functions.get(f"{t}::{name}")) and f.has_self}
             if len(methods) <= len(re.findall(rf"\.{name}\(", text)):
