@@ -6,9 +6,7 @@ ghost use Rattle.payload_util.specs.Prelude.{fields, tail, write};
 ghost use Rattle.bio.specs.Bio.{bio_read_r, bio_match_r};
 
 use biometric::BioHead;
-use payload_util::{
-    Payload, Record, Refusal, put_bytes, put_payload, require_exact_len, tail_where,
-};
+use payload_util::{Payload, Record, Refusal, byte_at, put_bytes, put_payload, require_exact_len, tail_where};
 
 // osdp_BIOREADR: the sample's type, format and quality. The sample is the tail; the layout is that of BIOMATCH.
 #[derive(Clone, Copy, Debug, PartialEq, Eq)]
@@ -25,7 +23,6 @@ impl Payload for BioReadR {
         BioHead::check_template(p, Self::CODE)
     }
 
-    #[tactic(auto, using(biometric::proofs::Laws::template_pass))]
     fn put_kept(p: &[u8], out: &mut [u8]) -> Result<usize, Refusal> {
         BioHead::put_folded(p, Self::CODE, out)
     }
@@ -37,7 +34,6 @@ impl Payload for BioReadR {
 impl Record for BioReadR {
     ghost fields = { fields bio_read_r };
 
-    #[tactic(auto, using(biometric::proofs::Laws::template_pass))]
     fn fields(p: &[u8]) -> BioReadR {
         BioReadR {
             head: BioHead::fields(p),
@@ -90,12 +86,11 @@ impl Payload for BioMatchR {
 impl Record for BioMatchR {
     ghost fields = { fields bio_match_r };
 
-    #[tactic(auto, using(payload_util::proofs::Guards::exact_pass))]
     fn fields(p: &[u8]) -> BioMatchR {
         BioMatchR {
-            reader: p[0],
-            result: p[1],
-            score: p[2],
+            reader: byte_at(p, 0),
+            result: byte_at(p, 1),
+            score: byte_at(p, 2),
         }
     }
 }

@@ -7,7 +7,7 @@ use native.Mathlib.Nat.{mod-add-div}
 use native.Mathlib.Omega.{arith}
 use lib.ListN.{length, drop}
 use Rattle.payload_util.specs.Bytes.{Bytes, byte_at, u16_at, u16_bytes}
-use Rattle.payload_util.specs.Loss.{keep, without, within_limits}
+use Rattle.payload_util.specs.Loss.{keep, only_at, without, within_limits}
 use Rattle.payload_util.specs.Guards.{exact_len, at_least, declared_len, at_most}
 use Rattle.payload_util.specs.declared.Row.{Row}
 use Rattle.payload_util.specs.Refusals.{◌also◌, in_order, Pass}
@@ -30,6 +30,13 @@ pub head_limits : (row : Row) (code : ℕ) (p : List ℕ)
     → within_limits row code bio_loss p ≡ (limit_at row code highest_type p 1 also limit_at row code highest_format p 2)
 unfolding in_order
 head_limits row code p = by_limits row code bio_loss p 3 (omega arith) ∙ simp also_none
+
+-- the type is folded, and then the format
+pub folded_twice : (p : List ℕ) → keep (only_at 2 highest_format) (keep (only_at 1 highest_type) p) ≡ keep bio_limits p
+folded_twice [] = refl
+folded_twice (a ∷ []) = refl
+folded_twice (a ∷ b ∷ []) = refl
+folded_twice (a ∷ b ∷ d ∷ p) = refl
 
 -- the head, written again in front of the rest of the payload, gives the payload without what is lost
 pub head_kept : (p : List ℕ) → Bytes p → 4 ≤ length p → head_bytes (head_of p) ++ drop 4 p ≡ without bio_loss p

@@ -8,7 +8,7 @@ ghost use Rattle.biometric.specs.Biometric.{bio_type_byte, bio_type_of, bio_form
 ghost use Rattle.biometric.specs.Biometric.{head_of, head_bytes, bio_loss, check_template, headed, bio_read, bio_match};
 
 use payload_util::{
-    Payload, Record, Refusal, Row, fold_at, high_byte, low_byte, put_bytes, put_payload,
+    Payload, Record, Refusal, Row, byte_at, fold_at, high_byte, low_byte, put_bytes, put_payload,
     require_at_most, require_exact_len, require_head_and_tail, require_limit, tail_where, u16_at,
 };
 
@@ -133,14 +133,13 @@ impl BioHead {
     }
 
     pub fn fields(p: &[u8]) -> BioHead
-        requires { 4 ≤ length p.now }
         ensures { result ≡ head_of p.now }
     {
         BioHead::new(
-            p[0],
-            BioType::from_byte(p[1]),
-            BioFormat::from_byte(p[2]),
-            p[3],
+            byte_at(p, 0),
+            BioType::from_byte(byte_at(p, 1)),
+            BioFormat::from_byte(byte_at(p, 2)),
+            byte_at(p, 3),
         )
     }
 
@@ -157,12 +156,12 @@ impl BioHead {
 
     // Writes a payload as it came, and then folds its type and format.
     pub fn put_folded(p: &[u8], code: u8, out: &mut [u8]) -> Result<usize, Refusal>
-        requires { 4 ≤ length p.now }
         ensures { (result, out.new) ≡ put code (without bio_loss p.now) out.old }
     {
         let n = put_payload(p, code, out)?;
-        fold_at(out, 1, BioType::HIGHEST);
-        fold_at(out, 2, BioFormat::HIGHEST);
+        let written = &mut out[..n];
+        fold_at(&mut *written, 1, BioType::HIGHEST);
+        fold_at(written, 2, BioFormat::HIGHEST);
         Ok(n)
     }
 
@@ -219,7 +218,6 @@ impl Payload for BioRead {
         require_exact_len(p, Self::WIRE_LEN, Self::CODE)
     }
 
-    #[tactic(auto, using(payload_util::proofs::Guards::exact_pass))]
     fn put_kept(p: &[u8], out: &mut [u8]) -> Result<usize, Refusal> {
         BioHead::put_folded(p, Self::CODE, out)
     }
@@ -231,7 +229,6 @@ impl Payload for BioRead {
 impl Record for BioRead {
     ghost fields = { fields bio_read };
 
-    #[tactic(auto, using(payload_util::proofs::Guards::exact_pass))]
     fn fields(p: &[u8]) -> BioRead {
         BioRead {
             head: BioHead::fields(p),
@@ -264,7 +261,6 @@ impl Payload for BioMatch {
         BioHead::check_template(p, Self::CODE)
     }
 
-    #[tactic(auto, using(crate::proofs::Laws::template_pass))]
     fn put_kept(p: &[u8], out: &mut [u8]) -> Result<usize, Refusal> {
         BioHead::put_folded(p, Self::CODE, out)
     }
@@ -276,7 +272,6 @@ impl Payload for BioMatch {
 impl Record for BioMatch {
     ghost fields = { fields bio_match };
 
-    #[tactic(auto, using(crate::proofs::Laws::template_pass))]
     fn fields(p: &[u8]) -> BioMatch {
         BioMatch {
             head: BioHead::fields(p),

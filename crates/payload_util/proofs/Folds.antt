@@ -5,10 +5,11 @@ use mathlib.Core.List.{List, [], ◌∷◌, ◌++◌, append_assoc, append-nil}
 use Prim.Native.Nat.{ℕ, zero, suc, ◌*◌, ◌≤◌}
 use native.Mathlib.Nat.{suc-mul, zero-mul}
 use native.Mathlib.Omega.{arith}
+use lib.Seq.{take_at, drop_at}
 use lib.ListN.{length, get_or, set, take, drop, length-append}
 use Rattle.payload_util.specs.Guards.{room}
 use Rattle.payload_util.specs.Loss.{Keep, up_to, kept, keep, only_at, times}
-use Rattle.payload_util.specs.Writing.{Effect, effect, room_last, put_checked}
+use Rattle.payload_util.specs.Writing.{Effect, effect, room_last, put_checked, put}
 use Rattle.payload_util.specs.declared.Refusal.{Refusal}
 use Rattle.payload_util.proofs.Guards.{also_pass}
 use Rattle.payload_util.proofs.Losses.{length_keep}
@@ -94,3 +95,22 @@ module _ (g : Guard) (code : ℕ) (ls : List Keep) (p out : List ℕ) {w : Outco
           let z : Ok (length p) ≡ Err r = sym (ap (λ (x : Effect). x.0) q) ∙ h in
           let y : ◌≡◌ {A = ℕ} 0 1 = cc in absurd (omega arith)
       go (Err x) q = q
+
+-- a payload was put, and q is what f makes of the part of the buffer that has it
+pub part_folded : (code : ℕ) (f : List ℕ → List ℕ) (p out : List ℕ) {w : Outcome ℕ} {e q : List ℕ} {n : ℕ} → ((l : List ℕ) → length (f l) ≡ length l)
+    → ◌≡◌ {A = Effect} (w, e) (put code p out) → w ≡ Ok n → q ≡ f (take n e) → ◌≡◌ {A = Effect} (Ok n, q ++ drop n e) (put code (f p) out)
+part_folded code f p out {w} {e} {q} {n} long is h by = go (room code (length p) (length out)) refl is
+  where
+    go : (r : Guard) → room code (length p) (length out) ≡ r → ◌≡◌ {A = Effect} (w, e) (effect r p out)
+        → ◌≡◌ {A = Effect} (Ok n, q ++ drop n e) (put code (f p) out)
+    go (Ok u) fits i =
+        let there : e ≡ p ++ drop (length p) out = ap (λ (x : Effect). x.1) i in
+        let counts : Ok n ≡ Ok (length p) = sym h ∙ ap (λ (x : Effect). x.0) i in
+        let size : n ≡ length p = cc in
+        let front : take n e ≡ p = ap (take n) there ∙ take_at p (drop (length p) out) n (sym size) in
+        let back : drop n e ≡ drop (length p) out = ap (drop n) there ∙ drop_at p (drop (length p) out) n (sym size) in
+        let made : q ≡ f p = by ∙ ap f front in
+        rw (made, back, size) (simp (long p, fits))
+    go (Err x) stop i =
+        let z : Err x ≡ Ok n = sym (ap (λ (y : Effect). y.0) i) ∙ h in
+        let y : ◌≡◌ {A = ℕ} 0 1 = cc in absurd (omega arith)

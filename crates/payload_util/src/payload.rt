@@ -1,6 +1,5 @@
 // What every kind of payload has, and what is made of it for each.
 ghost use Rattle.std.specs.Prelude.{◌≡◌, ℕ, List};
-ghost use Rattle.payload_util.specs.Refusals.{Pass};
 ghost use Rattle.payload_util.specs.Outcome.{outcome};
 ghost use Rattle.payload_util.specs.Loss.{without};
 ghost use Rattle.payload_util.specs.Writing.{put};
@@ -19,9 +18,8 @@ pub trait Payload: Copy {
     fn check(p: &[u8]) -> Result<(), Refusal>
         ensures { result ≡ check form p.now };
 
-    // Writes what reading keeps of a payload that passed.
+    // Writes what reading keeps of a payload, whether it passes the checks or not.
     fn put_kept(p: &[u8], out: &mut [u8]) -> Result<usize, Refusal>
-        requires { check form p.now ≡ Pass }
         ensures { (result, out.new) ≡ put (code form) (without (loss form) p.now) out.old };
 
     // The kind keeps the law that the theorems over all kinds rest on. It does nothing.
@@ -42,9 +40,8 @@ pub trait Payload: Copy {
 pub trait Record: Payload {
     ghost fields: { List ℕ → Self };
 
-    // The fixed fields of a payload that passed.
+    // The fixed fields of a payload, whether it passes the checks or not; a byte past its end counts as 0.
     fn fields(p: &[u8]) -> Self
-        requires { check Self.form p.now ≡ Pass }
         ensures { result ≡ fields p.now };
 
     final fn decode(p: &[u8]) -> Result<Self, Refusal>

@@ -3,9 +3,7 @@ ghost use Rattle.std.specs.Prelude.{◌≡◌};
 ghost use Rattle.payload_util.specs.Prelude.{fields, write};
 ghost use Rattle.plain.specs.Com.{address_and_baud};
 
-use payload_util::{
-    Payload, Record, Refusal, put_bytes, put_payload, require_exact_len, u32_at, u32_bytes,
-};
+use payload_util::{Payload, Record, Refusal, byte_at, put_bytes, put_payload, require_exact_len, u32_at, u32_bytes};
 
 pub(crate) const LEN: usize = 5;
 
@@ -36,10 +34,9 @@ impl<const CODE: u8> Payload for AddressAndBaud<CODE> {
 impl<const CODE: u8> Record for AddressAndBaud<CODE> {
     ghost fields = { fields (address_and_baud CODE) };
 
-    #[tactic(auto, using(payload_util::proofs::Guards::exact_pass))]
     fn fields(p: &[u8]) -> AddressAndBaud<CODE> {
         AddressAndBaud {
-            address: p[0],
+            address: byte_at(p, 0),
             baud: u32_at(p, 1),
         }
     }

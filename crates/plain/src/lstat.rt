@@ -3,7 +3,7 @@ ghost use Rattle.std.specs.Prelude.{◌≡◌};
 ghost use Rattle.payload_util.specs.Prelude.{fields, write};
 ghost use Rattle.plain.specs.LStat.{l_stat_r};
 
-use payload_util::{Payload, Record, Refusal, put_bytes, put_payload, require_exact_len};
+use payload_util::{Payload, Record, Refusal, byte_at, put_bytes, put_payload, require_exact_len};
 
 // 0 is normal, 1 is tamper or a power failure; any byte is accepted.
 #[derive(Clone, Copy, Debug, PartialEq, Eq)]
@@ -32,11 +32,10 @@ impl Payload for LStatR {
 impl Record for LStatR {
     ghost fields = { fields l_stat_r };
 
-    #[tactic(auto, using(payload_util::proofs::Guards::exact_pass))]
     fn fields(p: &[u8]) -> LStatR {
         LStatR {
-            tamper: p[0],
-            power: p[1],
+            tamper: byte_at(p, 0),
+            power: byte_at(p, 1),
         }
     }
 }

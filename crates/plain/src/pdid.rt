@@ -3,9 +3,7 @@ ghost use Rattle.std.specs.Prelude.{◌≡◌};
 ghost use Rattle.payload_util.specs.Prelude.{fields, write};
 ghost use Rattle.plain.specs.PdId.{pd_id};
 
-use payload_util::{
-    Payload, Record, Refusal, put_bytes, put_payload, require_exact_len, u32_at, u32_bytes,
-};
+use payload_util::{Payload, Record, Refusal, byte_at, put_bytes, put_payload, require_exact_len, u32_at, u32_bytes};
 
 #[derive(Clone, Copy, Debug, PartialEq, Eq)]
 pub struct PdId {
@@ -40,18 +38,17 @@ impl Payload for PdId {
 impl Record for PdId {
     ghost fields = { fields pd_id };
 
-    #[tactic(auto, using(payload_util::proofs::Guards::exact_pass))]
     fn fields(p: &[u8]) -> PdId {
         PdId {
-            oui_0: p[0],
-            oui_1: p[1],
-            oui_2: p[2],
-            model: p[3],
-            version: p[4],
+            oui_0: byte_at(p, 0),
+            oui_1: byte_at(p, 1),
+            oui_2: byte_at(p, 2),
+            model: byte_at(p, 3),
+            version: byte_at(p, 4),
             serial: u32_at(p, 5),
-            firmware_major: p[9],
-            firmware_minor: p[10],
-            firmware_build: p[11],
+            firmware_major: byte_at(p, 9),
+            firmware_minor: byte_at(p, 10),
+            firmware_build: byte_at(p, 11),
         }
     }
 }

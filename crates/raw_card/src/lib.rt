@@ -6,10 +6,7 @@ ghost use Rattle.payload_util.specs.Prelude.{fields, tail, write};
 ghost use Rattle.raw_card.specs.Raw.{bytes_for, raw, all_bits, write_bits};
 ghost use Rattle.raw_card.specs.Fmt.{fmt};
 
-use payload_util::{
-    Payload, Record, Refusal, byte_at, put_bytes, put_payload, require_head_and_tail, require_room,
-    require_tail_len, tail_where, u16_at,
-};
+use payload_util::{Payload, Record, Refusal, byte_at, put_bytes, put_payload, require_head_and_tail, require_room, require_tail_len, tail_where, u16_at};
 
 // The fixed fields; the bits are the tail.
 #[derive(Clone, Copy, Debug, PartialEq, Eq)]
@@ -48,11 +45,10 @@ impl Payload for Raw {
 impl Record for Raw {
     ghost fields = { fields raw };
 
-    #[tactic(auto, using(payload_util::proofs::Guards::head_and_tail_pass))]
     fn fields(p: &[u8]) -> Raw {
         Raw {
-            reader: p[0],
-            format_code: p[1],
+            reader: byte_at(p, 0),
+            format_code: byte_at(p, 1),
             bit_count: u16_at(p, 2),
         }
     }
@@ -143,12 +139,11 @@ impl Payload for Fmt {
 impl Record for Fmt {
     ghost fields = { fields fmt };
 
-    #[tactic(auto, using(payload_util::proofs::Guards::head_and_tail_pass))]
     fn fields(p: &[u8]) -> Fmt {
         Fmt {
-            reader: p[0],
-            direction: p[1],
-            char_count: p[2],
+            reader: byte_at(p, 0),
+            direction: byte_at(p, 1),
+            char_count: byte_at(p, 2),
         }
     }
 }

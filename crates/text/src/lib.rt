@@ -6,10 +6,7 @@ ghost use Rattle.payload_util.specs.Prelude.{refusal, require, fields, tail, wri
 ghost use Rattle.payload_util.specs.declared.Row.TheVariants.{UnprintableText};
 ghost use Rattle.text.specs.Text.{text_code, text_command_byte, read_text_command, printable, text_kind};
 
-use payload_util::{
-    Payload, Record, Refusal, Row, byte_at, put_bytes, put_payload, require, require_at_most,
-    require_head_and_tail, tail_from, tail_where,
-};
+use payload_util::{Payload, Record, Refusal, Row, byte_at, put_bytes, put_payload, require, require_at_most, require_head_and_tail, tail_from, tail_where};
 
 // Table 21.
 #[derive(Clone, Copy, Debug, PartialEq, Eq)]
@@ -78,17 +75,14 @@ impl Payload for Text {
 impl Record for Text {
     ghost fields = { fields text_kind };
 
-    #[tactic(auto, using(crate::proofs::Laws::text_least, crate::proofs::Laws::text_known))]
     fn fields(p: &[u8]) -> Text {
-        let Ok(command) = TextCommand::from_byte(p[1]) else {
-            unreachable!();
-        };
+        let command = TextCommand::from_byte(byte_at(p, 1));
         Text {
-            reader: p[0],
-            command,
-            temp_time_s: p[2],
-            row: p[3],
-            column: p[4],
+            reader: byte_at(p, 0),
+            command: command.unwrap_or(TextCommand::PermanentNoWrap),
+            temp_time_s: byte_at(p, 2),
+            row: byte_at(p, 3),
+            column: byte_at(p, 4),
         }
     }
 }

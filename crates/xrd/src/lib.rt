@@ -5,9 +5,7 @@ ghost use Rattle.std.specs.Prelude.{◌≡◌};
 ghost use Rattle.payload_util.specs.Prelude.{fields, tail, write};
 ghost use Rattle.xrd.specs.Xrd.{xrd};
 
-use payload_util::{
-    Payload, Record, Refusal, put_bytes, put_payload, require_at_least, tail_where,
-};
+use payload_util::{Payload, Record, Refusal, byte_at, put_bytes, put_payload, require_at_least, tail_where};
 
 // The fixed field: XRW_MODE. The mode's reply is the tail.
 #[derive(Clone, Copy, Debug, PartialEq, Eq)]
@@ -36,9 +34,8 @@ impl Payload for Xrd {
 impl Record for Xrd {
     ghost fields = { fields xrd };
 
-    #[tactic(auto, using(payload_util::proofs::Guards::least_pass))]
     fn fields(p: &[u8]) -> Xrd {
-        Xrd { mode: p[0] }
+        Xrd { mode: byte_at(p, 0) }
     }
 }
 
