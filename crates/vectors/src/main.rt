@@ -5,13 +5,10 @@ mod case;
 mod stream;
 mod tally;
 
-ghost use Rattle.std.specs.Prelude.{◌-◌, ◌≤◌};
-
-use crate::stream::Taken;
-use crate::tally::Tally;
+use crate::stream::{Entry, Unfit};
+use crate::tally::{State, Tally};
 use std::io;
 use std::io::Read;
-use vectors_case::Case;
 
 // The class of the record that ends a stream, whose argument is the number of cases before it.
 const END: u8 = 255;
@@ -20,25 +17,19 @@ const END: u8 = 255;
 const MORE: usize = 256;
 
 // Runs a case whose input and output are in the space.
-fn whole(rt: &impl Print, t: Tally, c: Case, space: &[u8], out: &mut [u8]) -> io::Result<Tally> {
-    let at = stream::BLOCKS;
-    let mid = c.mid;
-    let end = c.end;
-    if mid < at {
-        return t.unfit(rt);
+fn whole(rt: &impl Print, t: Tally, e: Entry, space: &[u8], out: &mut [u8]) -> io::Result<Tally> {
+    let n = e.end.saturating_sub(stream::BLOCKS).saturating_add(MORE);
+    match (
+        space.get(stream::BLOCKS..e.mid),
+        space.get(e.mid..e.end),
+        out.get_mut(..n),
+    ) {
+        (Some(input), Some(want), Some(out)) => {
+            let is_same = case::run(e, input, want, out);
+            t.after(rt, e, is_same)
+        }
+        _ => t.unfit(rt),
     }
-    if end < mid {
-        return t.unfit(rt);
-    }
-    if space.len() < end {
-        return t.unfit(rt);
-    }
-    let n = end - at + MORE;
-    if out.len() < n {
-        return t.unfit(rt);
-    }
-    let is_same = case::run(c, &space[at..mid], &space[mid..end], &mut out[0..n]);
-    t.after(rt, c, is_same)
 }
 
 // One case, one read, or the end.
@@ -50,32 +41,27 @@ fn turn<R: Read>(
     out: &mut [u8],
 ) -> io::Result<Tally> {
     match stream::take(&mut *space, t.from, t.to) {
-        Taken::Case(c) => by_class(rt, t, c, space, out),
-        Taken::Short => {
+        Ok(Some(e)) => by_class(rt, t, e, space, out),
+        Ok(None) => {
             let unread = stream::refill(input, space, t.from, t.to)?;
             t.refilled(rt, unread)
         }
-        Taken::Unfit => t.unfit(rt),
+        Err(Unfit) => t.unfit(rt),
     }
 }
 
-fn by_class(rt: &impl Print, t: Tally, c: Case, space: &[u8], out: &mut [u8]) -> io::Result<Tally> {
-    let class = c.class;
-    match class {
-        0..=case::LAST => whole(rt, t, c, space, out),
-        END => t.ended(rt, c),
-        _ => t.unknown(rt, class),
+fn by_class(
+    rt: &impl Print,
+    t: Tally,
+    e: Entry,
+    space: &[u8],
+    out: &mut [u8],
+) -> io::Result<Tally> {
+    match e.class {
+        0..=case::LAST => whole(rt, t, e, space, out),
+        END => t.ended(rt, e),
+        class => t.unknown(rt, class),
     }
-}
-
-// The turns that are left after one.
-fn left(turns: u64, is_done: bool) -> u64
-    ensures { result ≤ turns - 1 }
-{
-    if turns == 0 {
-        return 0;
-    }
-    if is_done { 0 } else { turns - 1 }
 }
 
 // Takes turns until the stream is done. There are more turns than any stream needs.
@@ -86,10 +72,11 @@ fn all<R: Read>(
     out: &mut [u8],
 ) -> io::Result<Tally> {
     let mut t = Tally::new();
-    let mut turns = u64::MAX;
-    while turns > 0 {
+    for _ in 0..u64::MAX {
         t = turn(rt, input, t, &mut *space, &mut *out)?;
-        turns = left(turns, t.is_done);
+        if t.state != State::Running {
+            break;
+        }
     }
     Ok(t)
 }

@@ -1,165 +1,140 @@
 // The stream of cases. One space holds the bytes that were read, up to BLOCKS, and after them the input and the output of a case.
-ghost use Rattle.std.specs.Prelude.{◌≤◌, length};
-
+use payload_util::Refusal;
 use std::io;
 use std::io::Read;
-use vectors_case::{Case, put, u32_at};
+use vectors_case::{put, wanted};
 
 pub const BLOCKS: usize = 262144;
 
-// What is between two indices of the space: a case or the record that ends a stream; only the beginning of one, or nothing; or one that
-// does not fit into the space.
+// What the stream has of a case, or of the record that ends a stream. In the space the input begins at BLOCKS, the output where the input ends.
+#[derive(Clone, Copy, Debug, PartialEq, Eq)]
+pub struct Entry {
+    pub class: u8,
+    pub code: u8,
+    pub argument: usize,
+    // the wanted answer; none if no row has its number
+    pub wanted: Option<Result<(), Refusal>>,
+    // the second value of the refusal, or a room
+    pub second: usize,
+    // where the output begins and ends
+    pub mid: usize,
+    pub end: usize,
+    // how long it is in the stream
+    pub size: usize,
+}
+
+// A case that does not fit into the space.
+#[derive(Clone, Copy, Debug, PartialEq, Eq)]
+pub struct Unfit;
+
+// How an input or an output is stored: how many of its bytes, how many more are filled up, and with which byte.
 #[derive(Clone, Copy)]
-pub enum Taken {
-    Case(Case),
-    Short,
-    Unfit,
-}
-
-// No index.
-const PAST: usize = 18446744073709551615;
-
-// A number of the stream, and the index after it.
-#[derive(Clone, Copy)]
-struct Number {
-    value: usize,
-    next: usize,
-}
-
-// One byte below 255, or 255 and then eight bytes, low byte first. If the stream ends before the number does, next is PAST.
-fn read_number(s: &[u8], at: usize) -> Number {
-    if s.len() <= at {
-        return Number {
-            value: 0,
-            next: PAST,
-        };
-    }
-    let b = s[at];
-    if b < 255 {
-        return Number {
-            value: b as usize,
-            next: at + 1,
-        };
-    }
-    if s.len() - at < 9 {
-        return Number {
-            value: 0,
-            next: PAST,
-        };
-    }
-    Number {
-        value: (u32_at(s, at + 1) as usize) + 4294967296 * (u32_at(s, at + 5) as usize),
-        next: at + 9,
-    }
-}
-
-// The sum of two indices or lengths, or PAST if it is too large or one of them is PAST.
-fn sum(a: usize, b: usize) -> usize {
-    if a < PAST - b { a + b } else { PAST }
-}
-
-// A case, and where its bytes lie: the index of its stored input, how many bytes of its input and of its output are stored, how many
-// are filled up, and with which byte.
-#[derive(Clone, Copy)]
-struct Head {
-    case: Case,
-    at: usize,
+struct Block {
     stored: usize,
     filled: usize,
     fill: u8,
-    stored_out: usize,
-    filled_out: usize,
-    fill_out: u8,
 }
 
-fn read_head(s: &[u8]) -> Head
-    requires { 5 ≤ length s.now }
-{
-    let argument = read_number(s, 5);
-    let first = read_number(s, argument.next);
-    let second = read_number(s, first.next);
-    let stored = read_number(s, second.next);
-    let filled = read_number(s, stored.next);
-    let stored_out = read_number(s, filled.next);
-    let filled_out = read_number(s, stored_out.next);
-    let case = Case {
-        class: s[0],
-        code: s[1],
-        row: s[2],
-        argument: argument.value,
-        first: first.value,
-        second: second.value,
+// A case without its bytes, and where in the stream these begin.
+#[derive(Clone, Copy)]
+struct Head {
+    entry: Entry,
+    at: usize,
+    input: Block,
+    output: Block,
+}
+
+// A number and what follows it: one byte below 255, or 255 and then eight bytes, low byte first. None if the stream ends before the number does.
+fn read_number(s: &[u8]) -> Option<(usize, &[u8])> {
+    let (first, rest) = s.split_first()?;
+    if *first < 255 {
+        return Some((usize::from(*first), rest));
+    }
+    let (bytes, rest) = rest.split_first_chunk::<8>()?;
+    Some((usize::from_le_bytes(*bytes), rest))
+}
+
+// None if the stream ends before the head does.
+fn read_head(s: &[u8]) -> Option<Head> {
+    let (bytes, rest) = s.split_first_chunk::<5>()?;
+    let [class, code, row, fill, fill_out] = *bytes;
+    let (argument, rest) = read_number(rest)?;
+    let (first, rest) = read_number(rest)?;
+    let (second, rest) = read_number(rest)?;
+    let (stored, rest) = read_number(rest)?;
+    let (filled, rest) = read_number(rest)?;
+    let (stored_out, rest) = read_number(rest)?;
+    let (filled_out, rest) = read_number(rest)?;
+    let at = s.len().saturating_sub(rest.len());
+    let entry = Entry {
+        class,
+        code,
+        argument,
+        wanted: wanted(row, code, first, second),
+        second,
         mid: 0,
         end: 0,
-        room: 0,
-        fill: 0,
-        size: sum(filled_out.next, sum(stored.value, stored_out.value)),
+        size: at.saturating_add(stored).saturating_add(stored_out),
     };
-    Head {
-        case,
-        at: filled_out.next,
-        stored: stored.value,
-        filled: filled.value,
-        fill: s[3],
-        stored_out: stored_out.value,
-        filled_out: filled_out.value,
-        fill_out: s[4],
+    Some(Head {
+        entry,
+        at,
+        input: Block {
+            stored,
+            filled,
+            fill,
+        },
+        output: Block {
+            stored: stored_out,
+            filled: filled_out,
+            fill: fill_out,
+        },
+    })
+}
+
+// Takes the case between two indices of the space, and puts its input and its output after BLOCKS. None if only the beginning of a case is
+// there, or nothing.
+pub fn take(space: &mut [u8], from: usize, to: usize) -> Result<Option<Entry>, Unfit> {
+    let Some(s) = space.get(from..to) else {
+        return Err(Unfit);
+    };
+    match read_head(s) {
+        Some(h) if h.entry.size <= s.len() => {
+            let entry = unpack(space, from.saturating_add(h.at), h)?;
+            Ok(Some(entry))
+        }
+        _ => Ok(None),
     }
 }
 
-// Takes the case between two indices of the space, and puts its input and its output after BLOCKS.
-pub fn take(space: &mut [u8], from: usize, to: usize) -> Taken {
-    if to < from || space.len() < to {
-        return Taken::Unfit;
-    }
-    if to - from < 5 {
-        return Taken::Short;
-    }
-    let h = read_head(&space[from..to]);
-    let c = h.case;
-    if to - from < c.size {
-        return Taken::Short;
-    }
-    unpack(space, sum(from, h.at), h)
+fn unpack(space: &mut [u8], at: usize, h: Head) -> Result<Entry, Unfit> {
+    let mid = put_block(&mut *space, at, BLOCKS, h.input)?;
+    let end = put_block(space, at.saturating_add(h.input.stored), mid, h.output)?;
+    Ok(Entry {
+        mid,
+        end,
+        ..h.entry
+    })
 }
 
-fn unpack(space: &mut [u8], at: usize, h: Head) -> Taken {
-    let mid = sum(BLOCKS, sum(h.stored, h.filled));
-    let end = sum(mid, sum(h.stored_out, h.filled_out));
-    if !block(&mut *space, at, h.stored, h.fill, BLOCKS, mid) {
-        return Taken::Unfit;
+// Puts a block whose stored bytes are at one index at another, and says where it ends.
+fn put_block(space: &mut [u8], at: usize, from: usize, b: Block) -> Result<usize, Unfit> {
+    let stored = from.saturating_add(b.stored);
+    let end = stored.saturating_add(b.filled);
+    if move_bytes(&mut *space, at, from, b.stored) && put(space, stored, end, b.fill) {
+        Ok(end)
+    } else {
+        Err(Unfit)
     }
-    if !block(space, sum(at, h.stored), h.stored_out, h.fill_out, mid, end) {
-        return Taken::Unfit;
-    }
-    let mut c = h.case;
-    c.mid = mid;
-    c.end = end;
-    Taken::Case(c)
-}
-
-// Puts the bytes that are stored at one index at another, and fills up to a third. False if they do not fit.
-fn block(space: &mut [u8], at: usize, stored: usize, fill: u8, from: usize, to: usize) -> bool {
-    move_bytes(&mut *space, at, from, stored) && put(space, sum(from, stored), to, fill)
 }
 
 // Moves n bytes from one index to another, the first byte first. False if they do not fit.
 fn move_bytes(space: &mut [u8], from: usize, to: usize, n: usize) -> bool {
-    if space.len() < n {
+    if space.len() < n || space.len() - n < from || space.len() - n < to {
         return false;
     }
-    let most = space.len() - n;
-    if most < from {
-        return false;
-    }
-    if most < to {
-        return false;
-    }
-    let mut i: usize = 0;
-    while i < n {
-        let b = space[from + i];
-        space[to + i] = b;
-        i += 1;
+    for i in 0..n {
+        space[to + i] = space[from + i];
     }
     true
 }
@@ -178,10 +153,7 @@ pub fn refill<R: Read>(
     if !move_bytes(&mut *space, from, 0, n) {
         return Ok(0);
     }
-    if BLOCKS <= n {
-        return Ok(n);
-    }
-    if space.len() < BLOCKS {
+    if BLOCKS <= n || space.len() < BLOCKS {
         return Ok(n);
     }
     let got = input.read(&mut space[n..BLOCKS])?;

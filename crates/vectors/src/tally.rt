@@ -1,11 +1,19 @@
 // How many cases there were and how many differ, and the position in the stream.
+use crate::stream::Entry;
 use std::io;
-use vectors_case::Case;
 
 // How many of the cases that differ are named.
 const NAMED: u64 = 10;
 
-#[derive(Clone, Copy)]
+#[derive(Clone, Copy, Debug, PartialEq, Eq)]
+pub enum State {
+    Running,
+    Done,
+    // something is wrong with the stream, and it was said
+    Broken,
+}
+
+#[derive(Clone, Copy, Debug, PartialEq, Eq)]
 pub struct Tally {
     pub cases: u64,
     pub differ: u64,
@@ -14,8 +22,7 @@ pub struct Tally {
     // the unread bytes of the buffer: from one index up to another
     pub from: usize,
     pub to: usize,
-    pub is_done: bool,
-    pub is_broken: bool,
+    pub state: State,
 }
 
 impl Tally {
@@ -26,8 +33,7 @@ impl Tally {
             since: 0,
             from: 0,
             to: 0,
-            is_done: false,
-            is_broken: false,
+            state: State::Running,
         }
     }
 
@@ -36,8 +42,7 @@ impl Tally {
         rt.print("broken at case ")?;
         say(rt, self.cases.wrapping_add(1), ": ")?;
         rt.print(why)?;
-        self.is_done = true;
-        self.is_broken = true;
+        self.state = State::Broken;
         Ok(self)
     }
 
@@ -53,35 +58,37 @@ impl Tally {
 
     // After a read: the unread bytes are at the front of the buffer. If none came, the stream is at its end.
     pub fn refilled(mut self, rt: &impl Print, unread: usize) -> io::Result<Tally> {
-        let is_end = self.from <= self.to && self.to - self.from == unread;
+        let is_end = self.to.checked_sub(self.from) == Some(unread);
         self.from = 0;
         self.to = unread;
-        self.is_done = is_end;
         if is_end && (0 < unread || 0 < self.since) {
             return self.broken(rt, "the stream ends before it, or in it\n");
+        }
+        if is_end {
+            self.state = State::Done;
         }
         Ok(self)
     }
 
     // After a record that ends a stream.
-    pub fn ended(mut self, rt: &impl Print, c: Case) -> io::Result<Tally> {
-        if self.since != c.argument {
+    pub fn ended(mut self, rt: &impl Print, e: Entry) -> io::Result<Tally> {
+        if self.since != e.argument {
             return self.broken(rt, "the stream ends, and had another number of cases\n");
         }
-        self.from = self.from.wrapping_add(c.size);
+        self.from = self.from.wrapping_add(e.size);
         self.since = 0;
         Ok(self)
     }
 
     // After one more case.
-    pub fn after(mut self, rt: &impl Print, c: Case, is_same: bool) -> io::Result<Tally> {
-        self.from = self.from.wrapping_add(c.size);
+    pub fn after(mut self, rt: &impl Print, e: Entry, is_same: bool) -> io::Result<Tally> {
+        self.from = self.from.wrapping_add(e.size);
         self.cases = self.cases.wrapping_add(1);
         self.since = self.since.wrapping_add(1);
         if !is_same {
             self.differ = self.differ.wrapping_add(1);
             if self.differ <= NAMED {
-                name(rt, self.cases, c)?;
+                name(rt, self.cases, e)?;
             }
         }
         Ok(self)
@@ -89,7 +96,7 @@ impl Tally {
 
     // A broken stream has no total.
     pub fn print(self, rt: &impl Print) -> io::Result<()> {
-        if self.is_broken {
+        if self.state == State::Broken {
             return Ok(());
         }
         say(rt, self.cases, " cases, ")?;
@@ -102,8 +109,8 @@ fn say(rt: &impl Print, n: u64, what: &str) -> io::Result<()> {
 }
 
 // Names a case that differs.
-fn name(rt: &impl Print, number: u64, c: Case) -> io::Result<()> {
-    let class = c.class;
-    let code = c.code;
+fn name(rt: &impl Print, number: u64, e: Entry) -> io::Result<()> {
+    let class = e.class;
+    let code = e.code;
     println!(rt; "case {number} differs: class {class}, code 0x{code:02x}")
 }
