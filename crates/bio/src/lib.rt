@@ -6,7 +6,9 @@ ghost use Rattle.payload_util.specs.Prelude.{fields, tail, write};
 ghost use Rattle.bio.specs.Bio.{bio_read_r, bio_match_r};
 
 use biometric::BioHead;
-use payload_util::{Payload, Record, Refusal, byte_at, put_bytes, put_payload, require_exact_len, tail_where};
+use payload_util::{
+    Payload, Record, Refusal, byte_at, put_bytes, put_payload, require_exact_len, tail_where,
+};
 
 // osdp_BIOREADR: the sample's type, format and quality. The sample is the tail; the layout is that of BIOMATCH.
 #[derive(Clone, Copy, Debug, PartialEq, Eq)]

@@ -5,7 +5,10 @@ ghost use Rattle.std.specs.Prelude.{◌≡◌};
 ghost use Rattle.payload_util.specs.Prelude.{fields, tail, write};
 ghost use Rattle.file_transfer.specs.FileTransfer.{file_transfer};
 
-use payload_util::{Payload, Record, Refusal, byte_at, high_byte, low_byte, put_bytes, put_payload, require_at_most, require_head_and_tail, tail_where, u16_at, u32_at, u32_bytes};
+use payload_util::{
+    Payload, Record, Refusal, byte_at, high_byte, low_byte, put_bytes, put_payload,
+    require_at_most, require_head_and_tail, tail_where, u16_at, u32_at, u32_bytes,
+};
 
 // The fixed fields; the fragment is the tail, and its length is not a field.
 #[derive(Clone, Copy, Debug, PartialEq, Eq)]

@@ -5,7 +5,10 @@ ghost use Rattle.std.specs.Prelude.{◌≡◌};
 ghost use Rattle.payload_util.specs.Prelude.{fields, tail, write};
 ghost use Rattle.keypad.specs.Keypad.{keypad};
 
-use payload_util::{Payload, Record, Refusal, byte_at, put_bytes, put_payload, require_head_and_tail, require_tail_len, tail_where};
+use payload_util::{
+    Payload, Record, Refusal, byte_at, put_bytes, put_payload, require_head_and_tail,
+    require_tail_len, tail_where,
+};
 
 // The fixed fields; the digits are the tail.
 #[derive(Clone, Copy, Debug, PartialEq, Eq)]

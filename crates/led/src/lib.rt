@@ -10,7 +10,7 @@ ghost use Rattle.led.specs.Led.{temporary_of, permanent_of, led_of, led_bytes, l
 
 use lists::{ListRecord, put_at};
 use payload_util::{
-    Payload, Refusal, Row, folded, high_byte, low_byte, put_payload, require_limit,
+    Payload, Refusal, Row, byte_at, folded, high_byte, low_byte, put_payload, require_limit,
     require_positive_multiple_of, tail_from, u16_at,
 };
 
@@ -90,15 +90,14 @@ impl LedTemporary {
 
     // The temporary half of a record.
     fn decode(buf: &[u8]) -> LedTemporary
-        requires { 14 ≤ length buf.now }
         ensures { result ≡ temporary_of buf.now }
     {
         LedTemporary {
-            control: buf[2],
-            on_time: buf[3],
-            off_time: buf[4],
-            on_color: LedColor::from_byte(buf[5]),
-            off_color: LedColor::from_byte(buf[6]),
+            control: byte_at(buf, 2),
+            on_time: byte_at(buf, 3),
+            off_time: byte_at(buf, 4),
+            on_color: LedColor::from_byte(byte_at(buf, 5)),
+            off_color: LedColor::from_byte(byte_at(buf, 6)),
             timer: u16_at(buf, 7),
         }
     }
@@ -135,15 +134,14 @@ impl LedPermanent {
 
     // The permanent half of a record.
     fn decode(buf: &[u8]) -> LedPermanent
-        requires { 14 ≤ length buf.now }
         ensures { result ≡ permanent_of buf.now }
     {
         LedPermanent {
-            control: buf[9],
-            on_time: buf[10],
-            off_time: buf[11],
-            on_color: LedColor::from_byte(buf[12]),
-            off_color: LedColor::from_byte(buf[13]),
+            control: byte_at(buf, 9),
+            on_time: byte_at(buf, 10),
+            off_time: byte_at(buf, 11),
+            on_color: LedColor::from_byte(byte_at(buf, 12)),
+            off_color: LedColor::from_byte(byte_at(buf, 13)),
         }
     }
 }
@@ -195,8 +193,8 @@ impl ListRecord for LedRecord {
 
     fn fields(p: &[u8]) -> LedRecord {
         LedRecord {
-            reader: p[0],
-            led: p[1],
+            reader: byte_at(p, 0),
+            led: byte_at(p, 1),
             temporary: LedTemporary::decode(p),
             permanent: LedPermanent::decode(p),
         }

@@ -5,7 +5,9 @@ ghost use Rattle.std.specs.Prelude.{◌≡◌};
 ghost use Rattle.payload_util.specs.Prelude.{fields, tail, write};
 ghost use Rattle.mfg.specs.Mfg.{mfg};
 
-use payload_util::{Payload, Record, Refusal, byte_at, put_bytes, put_payload, require_at_least, tail_where};
+use payload_util::{
+    Payload, Record, Refusal, byte_at, put_bytes, put_payload, require_at_least, tail_where,
+};
 
 // The fixed fields: the vendor's OUI. The vendor's data is the tail.
 #[derive(Clone, Copy)]

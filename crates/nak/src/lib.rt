@@ -5,7 +5,9 @@ ghost use Rattle.std.specs.Prelude.{◌≡◌};
 ghost use Rattle.payload_util.specs.Prelude.{without, loss, fields, tail, write};
 ghost use Rattle.nak.specs.Nak.{nak_error_byte, read_nak_error, nak};
 
-use payload_util::{Payload, Record, Refusal, Row, byte_at, put_bytes, put_payload, require_at_least, tail_where};
+use payload_util::{
+    Payload, Record, Refusal, Row, byte_at, put_bytes, put_payload, require_at_least, tail_where,
+};
 
 // NAK error code (Table 47).
 #[derive(Clone, Copy, Debug, PartialEq, Eq)]

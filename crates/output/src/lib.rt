@@ -8,7 +8,7 @@ ghost use Rattle.output.specs.Output.{output_byte, read_output_code, codes_known
 
 use lists::{ListRecord, put_at};
 use payload_util::{
-    Payload, Refusal, Row, high_byte, low_byte, put_payload, require_at_least,
+    Payload, Refusal, Row, byte_at, high_byte, low_byte, put_payload, require_at_least,
     require_positive_multiple_of, tail_from, u16_at,
 };
 
@@ -98,7 +98,7 @@ impl ListRecord for OutputRecord {
 
     // The codes of a list that passed its checks are known; an unknown one would give Nop.
     fn fields(p: &[u8]) -> OutputRecord {
-        let code = OutputControlCode::from_byte(p[1]);
+        let code = OutputControlCode::from_byte(byte_at(p, 1));
         Self::with_code(p, code.unwrap_or(OutputControlCode::Nop))
     }
 
@@ -116,11 +116,10 @@ impl ListRecord for OutputRecord {
 impl OutputRecord {
     // The record at the start of a buffer, with a code that was read already.
     fn with_code(p: &[u8], code: OutputControlCode) -> OutputRecord
-        requires { 4 ≤ length p.now }
         ensures { result ≡ out_with code p.now }
     {
         OutputRecord {
-            output: p[0],
+            output: byte_at(p, 0),
             code,
             timer: u16_at(p, 2),
         }

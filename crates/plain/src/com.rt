@@ -3,7 +3,9 @@ ghost use Rattle.std.specs.Prelude.{◌≡◌};
 ghost use Rattle.payload_util.specs.Prelude.{fields, write};
 ghost use Rattle.plain.specs.Com.{address_and_baud};
 
-use payload_util::{Payload, Record, Refusal, byte_at, put_bytes, put_payload, require_exact_len, u32_at, u32_bytes};
+use payload_util::{
+    Payload, Record, Refusal, byte_at, put_bytes, put_payload, require_exact_len, u32_at, u32_bytes,
+};
 
 pub(crate) const LEN: usize = 5;
 

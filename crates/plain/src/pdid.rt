@@ -3,7 +3,9 @@ ghost use Rattle.std.specs.Prelude.{◌≡◌};
 ghost use Rattle.payload_util.specs.Prelude.{fields, write};
 ghost use Rattle.plain.specs.PdId.{pd_id};
 
-use payload_util::{Payload, Record, Refusal, byte_at, put_bytes, put_payload, require_exact_len, u32_at, u32_bytes};
+use payload_util::{
+    Payload, Record, Refusal, byte_at, put_bytes, put_payload, require_exact_len, u32_at, u32_bytes,
+};
 
 #[derive(Clone, Copy, Debug, PartialEq, Eq)]
 pub struct PdId {

@@ -6,7 +6,10 @@ ghost use Rattle.payload_util.specs.Prelude.{fields, tail, write};
 ghost use Rattle.raw_card.specs.Raw.{bytes_for, raw, all_bits, write_bits};
 ghost use Rattle.raw_card.specs.Fmt.{fmt};
 
-use payload_util::{Payload, Record, Refusal, byte_at, put_bytes, put_payload, require_head_and_tail, require_room, require_tail_len, tail_where, u16_at};
+use payload_util::{
+    Payload, Record, Refusal, byte_at, put_bytes, put_payload, require_head_and_tail, require_room,
+    require_tail_len, tail_where, u16_at,
+};
 
 // The fixed fields; the bits are the tail.
 #[derive(Clone, Copy, Debug, PartialEq, Eq)]

@@ -6,7 +6,10 @@ ghost use Rattle.payload_util.specs.Prelude.{refusal, require, fields, tail, wri
 ghost use Rattle.payload_util.specs.declared.Row.TheVariants.{UnprintableText};
 ghost use Rattle.text.specs.Text.{text_code, text_command_byte, read_text_command, printable, text_kind};
 
-use payload_util::{Payload, Record, Refusal, Row, byte_at, put_bytes, put_payload, require, require_at_most, require_head_and_tail, tail_from, tail_where};
+use payload_util::{
+    Payload, Record, Refusal, Row, byte_at, put_bytes, put_payload, require, require_at_most,
+    require_head_and_tail, tail_from, tail_where,
+};
 
 // Table 21.
 #[derive(Clone, Copy, Debug, PartialEq, Eq)]

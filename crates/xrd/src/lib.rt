@@ -5,7 +5,9 @@ ghost use Rattle.std.specs.Prelude.{◌≡◌};
 ghost use Rattle.payload_util.specs.Prelude.{fields, tail, write};
 ghost use Rattle.xrd.specs.Xrd.{xrd};
 
-use payload_util::{Payload, Record, Refusal, byte_at, put_bytes, put_payload, require_at_least, tail_where};
+use payload_util::{
+    Payload, Record, Refusal, byte_at, put_bytes, put_payload, require_at_least, tail_where,
+};
 
 // The fixed field: XRW_MODE. The mode's reply is the tail.
 #[derive(Clone, Copy, Debug, PartialEq, Eq)]
@@ -35,7 +37,9 @@ impl Record for Xrd {
     ghost fields = { fields xrd };
 
     fn fields(p: &[u8]) -> Xrd {
-        Xrd { mode: byte_at(p, 0) }
+        Xrd {
+            mode: byte_at(p, 0),
+        }
     }
 }
 

@@ -1,5 +1,5 @@
 -- The index is below the count.
-use Rattle.std.proofs.Common.{arith, ◌≤◌, ◌+◌, ◌*◌, length, length-drop}
+use Rattle.std.proofs.Common.{arith, ◌≤◌, ◌+◌, ◌*◌, length}
 use Rattle.payload_util.proofs.Guards.{passed, present_pass}
 use Rattle.lists.proofs.Sizes.{record_ends}
 use Rattle.lists.proofs.ListRecord.decode.Goals as goal
@@ -13,7 +13,3 @@ ends g c =
 
 pub overflow_mul-WIRE_LEN : goal.overflow_mul-WIRE_LEN
 overflow_mul-WIRE_LEN g c = rw c.WIRE_LEN.ensures (omega (arith, ends g (goal.at.overflow_mul-WIRE_LEN g c).In_ok-require_present))
-
-pub fields-requires : goal.fields-requires
-fields-requires g c =
-    rw (c.tail_from.ensures, c.WIRE_LEN.ensures) (simp length-drop (omega (arith, ends g (goal.at.fields-requires g c).In_ok-require_present)))
