@@ -50,13 +50,6 @@ text_passes : (p : List ℕ) → check text_kind p ≡ Pass
 unfolding text_shape
 text_passes p g = search (also_left, also_right)
 
--- an accepted payload has its fixed fields, and its command is known
-pub text_least : (p : List ℕ) → check text_kind p ≡ Pass → 6 ≤ length p
-text_least p g = shape_least p (also_left (text_shape p) _ g)
-
-pub text_known : (p : List ℕ) → check text_kind p ≡ Pass → guard_of (read_text_command (byte_at p 1)) ≡ Pass
-text_known p g = also_right (text_shape p) _ g
-
 text_written : (t : Text) (s : List ℕ) → printable s ≡ Pass → check text_kind (bytes text_kind (t, s)) ≡ Pass
 unfolding text_shape
 text_written t s shown = simp (pass_head_and_tail 6 text_code (bytes text_kind (t, s)) (length s) (omega arith), shown, text_command_back)
