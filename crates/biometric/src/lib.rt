@@ -8,8 +8,8 @@ ghost use Rattle.biometric.specs.Biometric.{bio_type_byte, bio_type_of, bio_form
 ghost use Rattle.biometric.specs.Biometric.{head_of, head_bytes, bio_loss, check_template, headed, bio_read, bio_match};
 
 use payload_util::{
-    Payload, Record, Refusal, Row, byte_at, fold_at, high_byte, low_byte, put_bytes, put_payload,
-    require_at_most, require_exact_len, require_head_and_tail, require_limit, tail_where, u16_at,
+    Payload, Record, Refusal, Row, byte_at, fold_at, put_bytes, put_payload, require_at_most,
+    require_exact_len, require_head_and_tail, require_limit, tail_where, u16_at,
 };
 
 // Biometric type code (Table 24).
@@ -192,10 +192,10 @@ impl BioHead {
         ensures { (result, out.new) ≡ write (headed code) self template.now out.old }
     {
         require_at_most(template, Self::TEMPLATE_MAX, code)?;
-        let len = template.len() as u16;
+        let len = (template.len() as u16).to_le_bytes();
         let b = self.bytes();
         put_bytes(
-            &[b[0], b[1], b[2], b[3], low_byte(len), high_byte(len)],
+            &[b[0], b[1], b[2], b[3], len[0], len[1]],
             template,
             code,
             out,

@@ -6,8 +6,8 @@ ghost use Rattle.payload_util.specs.Prelude.{fields, tail, write};
 ghost use Rattle.file_transfer.specs.FileTransfer.{file_transfer};
 
 use payload_util::{
-    Payload, Record, Refusal, byte_at, high_byte, low_byte, put_bytes, put_payload,
-    require_at_most, require_head_and_tail, tail_where, u16_at, u32_at, u32_bytes,
+    Payload, Record, Refusal, byte_at, put_bytes, put_payload, require_at_most,
+    require_head_and_tail, tail_where, u16_at, u16_bytes, u32_at, u32_bytes,
 };
 
 // The fixed fields; the fragment is the tail, and its length is not a field.
@@ -65,7 +65,7 @@ impl FileTransfer {
         require_at_most(fragment, 65535, Self::CODE)?;
         let total = u32_bytes(self.total_size);
         let offset = u32_bytes(self.offset);
-        let len = fragment.len() as u16;
+        let len = u16_bytes(fragment.len() as u16);
         let head = [
             self.file_type,
             total[0],
@@ -76,8 +76,8 @@ impl FileTransfer {
             offset[1],
             offset[2],
             offset[3],
-            low_byte(len),
-            high_byte(len),
+            len[0],
+            len[1],
         ];
         put_bytes(&head, fragment, Self::CODE, out)
     }

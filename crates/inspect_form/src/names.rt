@@ -1,7 +1,15 @@
 // The names of codes, which are the Rust's; those of command and reply bytes in capitals.
+ghost use Rattle.std.specs.Prelude.{◌≡◌, ◌&&◌, ltb, length, is_some, is_ok};
+ghost use Rattle.codes.specs.CommandCode.{read_command};
+ghost use Rattle.codes.specs.ReplyCode.{read_reply};
+
 use crate::shown::Coded;
 
-pub fn command(code: u8) -> Option<&'static str> {
+// A name for each byte of the code table, and for no other.
+#[tactic(auto, unfolding(codes::specs::CommandCode::read_command))]
+pub fn command(code: u8) -> Option<&'static str>
+    ensures { is_some result ≡ is_ok (read_command code) }
+{
     Some(match code {
         0x60 => "POLL",
         0x61 => "ID",
@@ -33,7 +41,10 @@ pub fn command(code: u8) -> Option<&'static str> {
     })
 }
 
-pub fn reply(code: u8) -> Option<&'static str> {
+#[tactic(auto, unfolding(codes::specs::ReplyCode::read_reply))]
+pub fn reply(code: u8) -> Option<&'static str>
+    ensures { is_some result ≡ is_ok (read_reply code) }
+{
     Some(match code {
         0x40 => "ACK",
         0x41 => "NAK",
@@ -65,14 +76,20 @@ pub fn reply(code: u8) -> Option<&'static str> {
 }
 
 // A code whose names are counted from 0.
-fn coded(number: u64, names: &[&'static str]) -> Coded {
+fn coded(number: u64, names: &[&'static str]) -> Coded
+    ensures number { result.number ≡ number }
+    ensures named { is_some result.name ≡ ltb number (length names.now) }
+{
     Coded {
         number,
         name: names.get(number as usize).copied(),
     }
 }
 
-pub fn color(number: u64) -> Coded {
+pub fn color(number: u64) -> Coded
+    ensures number { result.number ≡ number }
+    ensures named { is_some result.name ≡ ltb number 8 }
+{
     coded(
         number,
         &[
@@ -81,7 +98,10 @@ pub fn color(number: u64) -> Coded {
     )
 }
 
-pub fn output_code(number: u64) -> Coded {
+pub fn output_code(number: u64) -> Coded
+    ensures number { result.number ≡ number }
+    ensures named { is_some result.name ≡ ltb number 7 }
+{
     coded(
         number,
         &[
@@ -97,7 +117,10 @@ pub fn output_code(number: u64) -> Coded {
 }
 
 // Its numbers begin with 1.
-pub fn text_command(number: u64) -> Coded {
+pub fn text_command(number: u64) -> Coded
+    ensures number { result.number ≡ number }
+    ensures named { is_some result.name ≡ (ltb 0 number && ltb number 5) }
+{
     let name = match number {
         1 => Some("PermanentNoWrap"),
         2 => Some("PermanentWrap"),
@@ -108,7 +131,10 @@ pub fn text_command(number: u64) -> Coded {
     Coded { number, name }
 }
 
-pub fn bio_type(number: u64) -> Coded {
+pub fn bio_type(number: u64) -> Coded
+    ensures number { result.number ≡ number }
+    ensures named { is_some result.name ≡ ltb number 18 }
+{
     coded(
         number,
         &[
@@ -134,14 +160,20 @@ pub fn bio_type(number: u64) -> Coded {
     )
 }
 
-pub fn bio_format(number: u64) -> Coded {
+pub fn bio_format(number: u64) -> Coded
+    ensures number { result.number ≡ number }
+    ensures named { is_some result.name ≡ ltb number 3 }
+{
     coded(
         number,
         &["NotSpecified", "FingerprintRawPgm", "FingerprintAnsi378"],
     )
 }
 
-pub fn nak_error(number: u64) -> Coded {
+pub fn nak_error(number: u64) -> Coded
+    ensures number { result.number ≡ number }
+    ensures named { is_some result.name ≡ ltb number 10 }
+{
     coded(
         number,
         &[
@@ -159,10 +191,16 @@ pub fn nak_error(number: u64) -> Coded {
     )
 }
 
-pub fn tamper(number: u64) -> Coded {
+pub fn tamper(number: u64) -> Coded
+    ensures number { result.number ≡ number }
+    ensures named { is_some result.name ≡ ltb number 2 }
+{
     coded(number, &["normal", "tamper"])
 }
 
-pub fn power(number: u64) -> Coded {
+pub fn power(number: u64) -> Coded
+    ensures number { result.number ≡ number }
+    ensures named { is_some result.name ≡ ltb number 2 }
+{
     coded(number, &["normal", "power failure"])
 }

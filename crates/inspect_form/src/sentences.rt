@@ -1,8 +1,12 @@
 // What the rows of the refusal table mean.
+ghost use Rattle.std.specs.Prelude.{◌<◌, length};
+
 use payload_util::Row;
 
 // What a row refuses, and in brackets what its two numbers are if it has them.
-pub fn sentence(row: Row) -> &'static str {
+pub fn sentence(row: Row) -> &'static str
+    ensures { 0 < length result.now }
+{
     match row {
         Row::UnknownCommand => "command byte in no table",
         Row::UnknownReply => "reply byte in no table",

@@ -10,7 +10,7 @@ ghost use Rattle.led.specs.Led.{temporary_of, permanent_of, led_of, led_bytes, l
 
 use lists::{ListRecord, put_at};
 use payload_util::{
-    Payload, Refusal, Row, byte_at, folded, high_byte, low_byte, put_payload, require_limit,
+    Payload, Refusal, Row, byte_at, folded, put_payload, require_limit,
     require_positive_multiple_of, tail_from, u16_at,
 };
 
@@ -212,6 +212,7 @@ impl LedRecord {
     {
         let temporary = self.temporary;
         let permanent = self.permanent;
+        let timer = temporary.timer.to_le_bytes();
         [
             self.reader,
             self.led,
@@ -220,8 +221,8 @@ impl LedRecord {
             temporary.off_time,
             temporary.on_color.as_byte(),
             temporary.off_color.as_byte(),
-            low_byte(temporary.timer),
-            high_byte(temporary.timer),
+            timer[0],
+            timer[1],
             permanent.control,
             permanent.on_time,
             permanent.off_time,

@@ -8,8 +8,8 @@ ghost use Rattle.output.specs.Output.{output_byte, read_output_code, codes_known
 
 use lists::{ListRecord, put_at};
 use payload_util::{
-    Payload, Refusal, Row, byte_at, high_byte, low_byte, put_payload, require_at_least,
-    require_positive_multiple_of, tail_from, u16_at,
+    Payload, Refusal, Row, byte_at, put_payload, require_at_least, require_positive_multiple_of,
+    tail_from, u16_at,
 };
 
 // Table 14.
@@ -103,12 +103,8 @@ impl ListRecord for OutputRecord {
     }
 
     fn encode_at(self, out: &mut [u8], offset: usize) -> Result<usize, Refusal> {
-        let bytes = [
-            self.output,
-            self.code.as_byte(),
-            low_byte(self.timer),
-            high_byte(self.timer),
-        ];
+        let timer = self.timer.to_le_bytes();
+        let bytes = [self.output, self.code.as_byte(), timer[0], timer[1]];
         put_at(&bytes, Self::CODE, out, offset)
     }
 }

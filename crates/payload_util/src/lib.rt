@@ -4,7 +4,7 @@
 ghost use Rattle.std.specs.Prelude.{◌≡◌, ◌&&◌, ◌++◌, ltb, leb, eqb, ◌+◌, ◌*◌, ◌/◌, ◌%◌, ◌≤◌, ◌<◌, min, length, drop};
 ghost use Rattle.std.proofs.Math.Seq.{paste};
 ghost use Rattle.payload_util.specs.Refusals.{number_of, refusal, require};
-ghost use Rattle.payload_util.specs.Bytes.{byte_at, u16_at, u32_at, u32_bytes};
+ghost use Rattle.payload_util.specs.Bytes.{byte_at, u16_at, u32_at, u16_bytes, u32_bytes};
 ghost use Rattle.payload_util.specs.Outcome.{tail_where};
 ghost use Rattle.payload_util.specs.Guards.{exact_len, at_least, positive_multiple_of, multiple_of, declared_len, head_and_tail, at_most, tail_len, room, present};
 ghost use Rattle.payload_util.specs.Loss.{up_to, kept, keep, only_at};
@@ -298,23 +298,17 @@ pub fn u32_at(payload: &[u8], offset: usize) -> u32
     ])
 }
 
-// The two bytes of a u16, and the four bytes of a u32.
-pub fn low_byte(n: u16) -> u8
-    ensures { result ≡ n % 256 }
+// The bytes of a number, low byte first, in the words of the definitions.
+pub fn u16_bytes(n: u16) -> [u8; 2]
+    ensures { result ≡ u16_bytes n }
 {
-    (n % 256) as u8
-}
-
-pub fn high_byte(n: u16) -> u8
-    ensures { result ≡ n / 256 }
-{
-    (n / 256) as u8
+    u16::to_le_bytes(n)
 }
 
 pub fn u32_bytes(n: u32) -> [u8; 4]
     ensures { result ≡ u32_bytes n }
 {
-    n.to_le_bytes()
+    u32::to_le_bytes(n)
 }
 
 // Copies all of src into out from an offset on.
