@@ -9,9 +9,6 @@ use payload_util::Refusal;
 use text::TextCommand;
 use vectors_case::Case;
 
-// The byte of a code: as the library gives it, and by the code's name.
-type Bytes = [u8; 2];
-
 pub fn run(c: Case, input: &[u8], want: &[u8]) -> bool {
     let [b] = input else {
         return false;
@@ -23,30 +20,27 @@ pub fn run(c: Case, input: &[u8], want: &[u8]) -> bool {
     }
 }
 
-// None if there is no such table.
-fn look_up(table: usize, b: u8) -> Option<Result<Bytes, Refusal>> {
+// The byte of the code that b names: as the library gives it, and by the code's name. None if there is no such table.
+fn look_up(table: usize, b: u8) -> Option<Result<[u8; 2], Refusal>> {
     let found = match table {
         0 => CommandCode::from_byte(b).map(|code| [code.as_byte(), names::command(code)]),
         1 => ReplyCode::from_byte(b).map(|code| [code.as_byte(), names::reply(code)]),
-        2 => Ok(color(LedColor::from_byte(b))),
-        3 => Ok(bio_type(BioType::from_byte(b))),
-        4 => Ok(bio_format(BioFormat::from_byte(b))),
+        2 => {
+            let code = LedColor::from_byte(b);
+            Ok([code.as_byte(), names::color(code)])
+        }
+        3 => {
+            let code = BioType::from_byte(b);
+            Ok([code.as_byte(), names::bio_type(code)])
+        }
+        4 => {
+            let code = BioFormat::from_byte(b);
+            Ok([code.as_byte(), names::bio_format(code)])
+        }
         5 => OutputControlCode::from_byte(b).map(|code| [code.as_byte(), names::output(code)]),
         6 => TextCommand::from_byte(b).map(|code| [code.as_byte(), names::text(code)]),
         7 => NakErrorCode::from_byte(b).map(|code| [code.as_byte(), names::nak(code)]),
         _ => return None,
     };
     Some(found)
-}
-
-fn color(code: LedColor) -> Bytes {
-    [code.as_byte(), names::color(code)]
-}
-
-fn bio_type(code: BioType) -> Bytes {
-    [code.as_byte(), names::bio_type(code)]
-}
-
-fn bio_format(code: BioFormat) -> Bytes {
-    [code.as_byte(), names::bio_format(code)]
 }
