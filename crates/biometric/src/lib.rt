@@ -38,7 +38,7 @@ pub enum BioType {
 impl BioType {
     const HIGHEST: u8 = BioType::LeftHandGeometry as u8;
 
-    // Any other byte becomes NotSpecified.
+    // By its name in the Rust, with no `From` beside it. Any other byte becomes NotSpecified.
     #[tactic(auto, unfolding(crate::specs::Biometric::bio_type_of))]
     pub fn from_byte(b: u8) -> BioType
         ensures { result ≡ bio_type_of b }
@@ -84,7 +84,7 @@ pub enum BioFormat {
 impl BioFormat {
     const HIGHEST: u8 = BioFormat::FingerprintAnsi378 as u8;
 
-    // Any other byte becomes NotSpecified.
+    // By its name in the Rust, with no `From` beside it. Any other byte becomes NotSpecified.
     #[tactic(auto, unfolding(crate::specs::Biometric::bio_format_of))]
     pub fn from_byte(b: u8) -> BioFormat
         ensures { result ≡ bio_format_of b }
@@ -246,7 +246,8 @@ impl BioRead {
     }
 }
 
-// osdp_BIOMATCH: the sample to take, and the quality of a match. The template is the tail.
+// osdp_BIOMATCH: the sample to take, and the quality of a match. The template is the tail. A struct of its own beside BIOREADR's, since a pattern
+// of a `match` in another crate cannot name the constant of an `impl` for every code byte.
 #[derive(Clone, Copy, Debug, PartialEq, Eq)]
 pub struct BioMatch {
     pub head: BioHead,

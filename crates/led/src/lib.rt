@@ -30,7 +30,7 @@ pub enum LedColor {
 impl LedColor {
     const HIGHEST: u8 = 7;
 
-    // An unknown colour becomes Black.
+    // By its name in the Rust, with no `From` beside it. An unknown colour becomes Black.
     #[tactic(auto, unfolding(crate::specs::Led::color_of))]
     pub fn from_byte(b: u8) -> LedColor
         ensures { result ≡ color_of b }

@@ -25,7 +25,7 @@ pub enum NakErrorCode {
 }
 
 impl NakErrorCode {
-    // Row 10 if no error has this byte.
+    // By its name in the Rust, with no `TryFrom` beside it. Row 10 if no error has this byte.
     #[tactic(auto, unfolding(crate::specs::Nak::read_nak_error))]
     pub fn from_byte(b: u8) -> Result<Self, Refusal>
         ensures { result ≡ read_nak_error b }

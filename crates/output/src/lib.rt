@@ -27,7 +27,7 @@ pub enum OutputControlCode {
 impl OutputControlCode {
     const HIGHEST: u8 = 6;
 
-    // Row 7 if no code has this byte.
+    // By its name in the Rust, with no `TryFrom` beside it. Row 7 if no code has this byte.
     #[tactic(auto, unfolding(crate::specs::Output::read_output_code))]
     pub fn from_byte(b: u8) -> Result<OutputControlCode, Refusal>
         ensures { result ≡ read_output_code b }

@@ -1,4 +1,5 @@
-// osdp_KEEPACTIVE (0xA7): for how many milliseconds a reader is to stay active. The layout is that of ACURXSIZE.
+// osdp_KEEPACTIVE (0xA7): for how many milliseconds a reader is to stay active. The layout is that of ACURXSIZE, but
+// the field's name, which is the Rust's, is another.
 ghost use Rattle.std.specs.Prelude.{◌≡◌};
 ghost use Rattle.payload_util.specs.Prelude.{fields, write};
 ghost use Rattle.plain.specs.Number.{keep_active};

@@ -21,7 +21,7 @@ pub enum TextCommand {
 }
 
 impl TextCommand {
-    // Row 9 if no command has this byte.
+    // By its name in the Rust, with no `TryFrom` beside it. Row 9 if no command has this byte.
     #[tactic(auto, unfolding(crate::specs::Text::read_text_command))]
     pub fn from_byte(b: u8) -> Result<Self, Refusal>
         ensures { result ≡ read_text_command b }

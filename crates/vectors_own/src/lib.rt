@@ -1,5 +1,5 @@
 // The kinds' own checks and normalisers, which have no limit on the payload's length: for classes 5 and 6 of crates/vectors. None for a code byte
-// that no kind has.
+// that no kind has. Each has a `match` of its own, since the way from code byte to kind in osdp is what is tested.
 #![tactic(auto)]
 
 ghost use Rattle.std.specs.Prelude.{◌≡◌, length};
