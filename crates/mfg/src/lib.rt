@@ -10,7 +10,7 @@ use payload_util::{
 };
 
 // The fixed fields: the vendor's OUI. The vendor's data is the tail.
-#[derive(Clone, Copy)]
+#[derive(Clone, Copy, Debug, PartialEq, Eq)]
 pub struct Mfg {
     pub oui_0: u8,
     pub oui_1: u8,
