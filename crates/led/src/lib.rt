@@ -257,7 +257,7 @@ impl LedRecord {
         bytes[13] = permanent_off;
     }
 
-    // Folds the colours of all records of a payload whose copy is at the front of out.
+    // Folds the colours of all records of a payload whose copy is at the front of out. By number: two rows of chunks, zipped, take a fifth longer.
     fn fold_all(p: &[u8], out: &mut [u8])
         requires { take (length p.now) out.old ≡ p.now }
         ensures { out.new ≡ keep (times (length p.now / 14) (led_limits highest_color)) out.old }

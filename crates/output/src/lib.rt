@@ -131,7 +131,7 @@ impl OutputRecord {
         Ok(Self::with_code(part, OutputControlCode::from_byte(part[1])?))
     }
 
-    // Says yes only if these are four records whose codes are known.
+    // Says yes only if these are four records whose codes are known. Four at a time, since one at a time misses a bar of the bench.
     fn four_known(p: &[u8]) -> bool
         ensures { result ≡ true → codes_known p.now ≡ Pass }
     {

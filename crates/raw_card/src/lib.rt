@@ -101,11 +101,11 @@ fn fill_bits(bits: &[u8], out: &mut [u8])
     requires { length out.old ≤ 8 * length bits.now }
     ensures { out.new ≡ take (length out.old) (all_bits bits.now) }
 {
-    for (i, byte) in bits.iter().enumerate() {
+    'bytes: for (i, byte) in bits.iter().enumerate() {
         for k in 0..8 {
             let at = 8 * i + k;
             if at == out.len() {
-                return;
+                break 'bytes;
             }
             out[at] = *byte >> (7 - k) & 1;
         }

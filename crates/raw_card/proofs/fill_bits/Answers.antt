@@ -6,9 +6,9 @@ use Rattle.raw_card.proofs.fill_bits.Goals as goal
 pub loop-k-preserved : goal.loop-k-preserved
 loop-k-preserved c =
     let bits = c.args.bits.now in
-    let i = c.loop-i.i in
+    let i = c.bytes.i in
     let l = c.loop-k in
     let room : 8 * i + l.k < length l.out = omega arith in
     let next : 8 * i + (l.k + 1) ≡ 8 * i + l.k + 1 = omega arith in
-    let more = filled_more _ _ l.invariant.filled (omega (arith, length_all bits)) room (bit_at bits i l.k c.loop-i-test.true c.loop-k-test.true) in
+    let more = filled_more _ _ l.invariant.filled (omega (arith, length_all bits)) room (bit_at bits i l.k c.bytes-test.true c.loop-k-test.true) in
     record { within = omega (arith, more.long, l.invariant.filled.long); filled = rw next more }

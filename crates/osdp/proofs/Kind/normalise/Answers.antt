@@ -1,3 +1,4 @@
+-- One lemma for all arms, named by `using`, was tried: the search did not take it.
 use Rattle.osdp.proofs.Kind.normalise.Goals as goal
 
 pub returns-in-Led : goal.returns-in-Led
