@@ -1,5 +1,5 @@
 // Runs one case on the library.
-use crate::stream::Entry;
+use crate::stream::{Head, PLACE};
 use vectors_case::Case;
 use vectors_kind::{list, table};
 use vectors_read::{guard, payload, walker};
@@ -8,12 +8,9 @@ use vectors_write::{place, writer};
 // The highest class of a case.
 pub const LAST: u8 = 17;
 
-// The class whose room is in the stream.
-const PLACE: u8 = 14;
-
 // Tries a case with its input, the wanted output, and a buffer that is longer than both together. False if no row has the wanted number.
-pub fn run(e: Entry, input: &[u8], want: &[u8], out: &mut [u8]) -> bool {
-    let Some(wanted) = e.wanted else {
+pub fn run(h: Head, input: &[u8], want: &[u8], out: &mut [u8]) -> bool {
+    let Some(wanted) = h.wanted else {
         return false;
     };
     let n = want.len();
@@ -27,11 +24,11 @@ pub fn run(e: Entry, input: &[u8], want: &[u8], out: &mut [u8]) -> bool {
     ];
     for (room, fill) in tries {
         let c = Case {
-            class: e.class,
-            code: e.code,
-            argument: e.argument,
+            class: h.class,
+            code: h.code,
+            argument: h.argument,
             wanted,
-            room: if e.class == PLACE { e.second } else { room },
+            room: h.room.unwrap_or(room),
             fill,
         };
         if !once(c, input, want, &mut *out) {

@@ -5,7 +5,7 @@ mod case;
 mod stream;
 mod tally;
 
-use crate::stream::{Entry, Unfit};
+use crate::stream::{Entry, Space, Unfit};
 use crate::tally::{State, Tally};
 use std::io;
 use std::io::Read;
@@ -17,19 +17,15 @@ const END: u8 = 255;
 const MORE: usize = 256;
 
 // Runs a case whose input and output are in the space.
-fn whole(rt: &impl Print, t: Tally, e: Entry, space: &[u8], out: &mut [u8]) -> io::Result<Tally> {
-    let n = e.end.saturating_sub(stream::BLOCKS).saturating_add(MORE);
-    match (
-        space.get(stream::BLOCKS..e.mid),
-        space.get(e.mid..e.end),
-        out.get_mut(..n),
-    ) {
-        (Some(input), Some(want), Some(out)) => {
-            let is_same = case::run(e, input, want, out);
-            t.after(rt, e, is_same)
-        }
-        _ => t.unfit(rt),
-    }
+fn whole(rt: &impl Print, t: Tally, e: Entry, space: &Space, out: &mut [u8]) -> io::Result<Tally> {
+    let Some((input, want)) = space.input_and_output(e) else {
+        return t.unfit(rt);
+    };
+    let n = input.len().saturating_add(want.len()).saturating_add(MORE);
+    let Some(out) = out.get_mut(..n) else {
+        return t.unfit(rt);
+    };
+    t.after(rt, e.head, case::run(e.head, input, want, out))
 }
 
 // One case, one read, or the end.
@@ -37,15 +33,15 @@ fn turn<R: Read>(
     rt: &impl Print,
     input: &mut R,
     t: Tally,
-    space: &mut [u8],
+    space: &mut Space,
     out: &mut [u8],
 ) -> io::Result<Tally> {
-    match stream::take(&mut *space, t.from, t.to) {
+    match space.take() {
         Ok(Some(e)) => by_class(rt, t, e, space, out),
-        Ok(None) => {
-            let unread = stream::refill(input, space, t.from, t.to)?;
-            t.refilled(rt, unread)
-        }
+        Ok(None) => match space.refill(input)? {
+            0 => t.finished(rt, space.unread()),
+            _ => Ok(t),
+        },
         Err(Unfit) => t.unfit(rt),
     }
 }
@@ -54,12 +50,12 @@ fn by_class(
     rt: &impl Print,
     t: Tally,
     e: Entry,
-    space: &[u8],
+    space: &Space,
     out: &mut [u8],
 ) -> io::Result<Tally> {
-    match e.class {
+    match e.head.class {
         0..=case::LAST => whole(rt, t, e, space, out),
-        END => t.ended(rt, e),
+        END => t.ended(rt, e.head),
         class => t.unknown(rt, class),
     }
 }
@@ -68,7 +64,7 @@ fn by_class(
 fn all<R: Read>(
     rt: &impl Print,
     input: &mut R,
-    space: &mut [u8],
+    space: &mut Space,
     out: &mut [u8],
 ) -> io::Result<Tally> {
     let mut t = Tally::new();
@@ -83,7 +79,7 @@ fn all<R: Read>(
 
 fn main(rt: HostRuntime) -> io::Result<()> {
     let mut input = rt.stdin();
-    let mut space = [0u8; 393728];
+    let mut space = Space::new();
     let mut out = [0u8; 131840];
     all(&rt, &mut input, &mut space, &mut out)?.print(&rt)
 }

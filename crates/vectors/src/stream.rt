@@ -1,26 +1,35 @@
-// The stream of cases. One space holds the bytes that were read, up to BLOCKS, and after them the input and the output of a case.
+// The stream of cases, and the space that it is read into.
+ghost use Rattle.std.specs.Prelude.{◌≤◌};
+
 use payload_util::Refusal;
 use std::io;
 use std::io::Read;
-use vectors_case::{put, wanted};
+use vectors_case::wanted;
 
-pub const BLOCKS: usize = 262144;
+// The space holds the bytes that were read, up to this index, and from there on the input and the output of the case that was taken last.
+const BLOCKS: usize = 262144;
 
-// What the stream has of a case, or of the record that ends a stream. In the space the input begins at BLOCKS, the output where the input ends.
+// The class whose room is in the stream.
+pub const PLACE: u8 = 14;
+
+// What the stream has of a case beside its bytes, or of the record that ends a stream.
 #[derive(Clone, Copy, Debug, PartialEq, Eq)]
-pub struct Entry {
+pub struct Head {
     pub class: u8,
     pub code: u8,
     pub argument: usize,
     // the wanted answer; none if no row has its number
     pub wanted: Option<Result<(), Refusal>>,
-    // the second value of the refusal, or a room
-    pub second: usize,
-    // where the output begins and ends
-    pub mid: usize,
-    pub end: usize,
-    // how long it is in the stream
-    pub size: usize,
+    // the room that the stream gives; none if the case is tried with several
+    pub room: Option<usize>,
+}
+
+// A case whose bytes are in the space: the input begins at BLOCKS, the output where the input ends.
+#[derive(Clone, Copy, Debug, PartialEq, Eq)]
+pub struct Entry {
+    pub head: Head,
+    mid: usize,
+    end: usize,
 }
 
 // A case that does not fit into the space.
@@ -35,13 +44,21 @@ struct Block {
     fill: u8,
 }
 
-// A case without its bytes, and where in the stream these begin.
+// A case as it is stored: its head, how many bytes that has, and its blocks, whose stored bytes follow the head.
 #[derive(Clone, Copy)]
-struct Head {
-    entry: Entry,
-    at: usize,
+struct Packed {
+    head: Head,
+    head_size: usize,
     input: Block,
     output: Block,
+}
+
+impl Packed {
+    fn size(self) -> usize {
+        self.head_size
+            .saturating_add(self.input.stored)
+            .saturating_add(self.output.stored)
+    }
 }
 
 // A number and what follows it: one byte below 255, or 255 and then eight bytes, low byte first. None if the stream ends before the number does.
@@ -55,7 +72,7 @@ fn read_number(s: &[u8]) -> Option<(usize, &[u8])> {
 }
 
 // None if the stream ends before the head does.
-fn read_head(s: &[u8]) -> Option<Head> {
+fn read_packed(s: &[u8]) -> Option<Packed> {
     let (bytes, rest) = s.split_first_chunk::<5>()?;
     let [class, code, row, fill, fill_out] = *bytes;
     let (argument, rest) = read_number(rest)?;
@@ -65,20 +82,16 @@ fn read_head(s: &[u8]) -> Option<Head> {
     let (filled, rest) = read_number(rest)?;
     let (stored_out, rest) = read_number(rest)?;
     let (filled_out, rest) = read_number(rest)?;
-    let at = s.len().saturating_sub(rest.len());
-    let entry = Entry {
+    let head = Head {
         class,
         code,
         argument,
         wanted: wanted(row, code, first, second),
-        second,
-        mid: 0,
-        end: 0,
-        size: at.saturating_add(stored).saturating_add(stored_out),
+        room: (class == PLACE).then_some(second),
     };
-    Some(Head {
-        entry,
-        at,
+    Some(Packed {
+        head,
+        head_size: s.len().saturating_sub(rest.len()),
         input: Block {
             stored,
             filled,
@@ -92,70 +105,81 @@ fn read_head(s: &[u8]) -> Option<Head> {
     })
 }
 
-// Takes the case between two indices of the space, and puts its input and its output after BLOCKS. None if only the beginning of a case is
-// there, or nothing.
-pub fn take(space: &mut [u8], from: usize, to: usize) -> Result<Option<Entry>, Unfit> {
-    let Some(s) = space.get(from..to) else {
-        return Err(Unfit);
-    };
-    match read_head(s) {
-        Some(h) if h.entry.size <= s.len() => {
-            let entry = unpack(space, from.saturating_add(h.at), h)?;
-            Ok(Some(entry))
-        }
-        _ => Ok(None),
-    }
-}
-
-fn unpack(space: &mut [u8], at: usize, h: Head) -> Result<Entry, Unfit> {
-    let mid = put_block(&mut *space, at, BLOCKS, h.input)?;
-    let end = put_block(space, at.saturating_add(h.input.stored), mid, h.output)?;
+// Puts the input and the output of a case whose stored bytes begin at an index after BLOCKS.
+fn unpack(space: &mut [u8], at: usize, p: Packed) -> Result<Entry, Unfit> {
+    let mid = put_block(&mut *space, at, BLOCKS, p.input)?;
+    let end = put_block(space, at.saturating_add(p.input.stored), mid, p.output)?;
     Ok(Entry {
+        head: p.head,
         mid,
         end,
-        ..h.entry
     })
 }
 
 // Puts a block whose stored bytes are at one index at another, and says where it ends.
-fn put_block(space: &mut [u8], at: usize, from: usize, b: Block) -> Result<usize, Unfit> {
-    let stored = from.saturating_add(b.stored);
+fn put_block(space: &mut [u8], at: usize, to: usize, b: Block) -> Result<usize, Unfit> {
+    let stored = to.saturating_add(b.stored);
     let end = stored.saturating_add(b.filled);
-    if move_bytes(&mut *space, at, from, b.stored) && put(space, stored, end, b.fill) {
-        Ok(end)
-    } else {
-        Err(Unfit)
+    if space.get(at..).is_none_or(|s| s.len() < b.stored) || space.len() < end {
+        return Err(Unfit);
     }
+    space.copy_within(at..at + b.stored, to);
+    space[stored..end].fill(b.fill);
+    Ok(end)
 }
 
-// Moves n bytes from one index to another, the first byte first. False if they do not fit.
-fn move_bytes(space: &mut [u8], from: usize, to: usize, n: usize) -> bool {
-    if space.len() < n || space.len() - n < from || space.len() - n < to {
-        return false;
-    }
-    for i in 0..n {
-        space[to + i] = space[from + i];
-    }
-    true
-}
-
-// Moves the unread bytes, which are between two indices, to the front, reads once behind them, and returns how many are unread.
-pub fn refill<R: Read>(
-    input: &mut R,
-    space: &mut [u8],
+#[derive(Drop)]
+pub struct Space {
+    bytes: [u8; 393728],
+    // the bytes that were read and not taken: from one index up to another
     from: usize,
     to: usize,
-) -> io::Result<usize> {
-    if to < from {
-        return Ok(0);
+    ghost in_order: { from ≤ to },
+    ghost before_blocks: { to ≤ 262144 },
+}
+
+impl Space {
+    pub fn new() -> Space {
+        Space {
+            bytes: [0; 393728],
+            from: 0,
+            to: 0,
+        }
     }
-    let n = to - from;
-    if !move_bytes(&mut *space, from, 0, n) {
-        return Ok(0);
+
+    pub fn unread(&self) -> usize {
+        self.to - self.from
     }
-    if BLOCKS <= n || space.len() < BLOCKS {
-        return Ok(n);
+
+    // Takes a case, and puts its input and its output into the space. None if only the beginning of a case is there, or nothing.
+    pub fn take(&mut self) -> Result<Option<Entry>, Unfit> {
+        let unread = &self.bytes[self.from..self.to];
+        match read_packed(unread) {
+            Some(p) if p.size() <= unread.len() => {
+                let at = self.from.saturating_add(p.head_size);
+                let entry = unpack(&mut self.bytes, at, p)?;
+                self.from += p.size();
+                Ok(Some(entry))
+            }
+            _ => Ok(None),
+        }
     }
-    let got = input.read(&mut space[n..BLOCKS])?;
-    Ok(n + got)
+
+    // The input and the output of the case that was taken last.
+    pub fn input_and_output(&self, e: Entry) -> Option<(&[u8], &[u8])> {
+        let input = self.bytes.get(BLOCKS..e.mid)?;
+        let output = self.bytes.get(e.mid..e.end)?;
+        Some((input, output))
+    }
+
+    // Moves the unread bytes to the front, reads once behind them, and returns how many more there are.
+    pub fn refill<R: Read>(&mut self, input: &mut R) -> io::Result<usize> {
+        let n = self.unread();
+        self.bytes.copy_within(self.from..self.to, 0);
+        self.from = 0;
+        self.to = n;
+        let got = input.read(&mut self.bytes[n..BLOCKS])?;
+        self.to += got;
+        Ok(got)
+    }
 }

@@ -1,5 +1,5 @@
-// How many cases there were and how many differ, and the position in the stream.
-use crate::stream::Entry;
+// How many cases there were and how many differ.
+use crate::stream::Head;
 use std::io;
 
 // How many of the cases that differ are named.
@@ -19,9 +19,6 @@ pub struct Tally {
     pub differ: u64,
     // cases since the stream began, or since the last record that ended a stream
     pub since: usize,
-    // the unread bytes of the buffer: from one index up to another
-    pub from: usize,
-    pub to: usize,
     pub state: State,
 }
 
@@ -31,8 +28,6 @@ impl Tally {
             cases: 0,
             differ: 0,
             since: 0,
-            from: 0,
-            to: 0,
             state: State::Running,
         }
     }
@@ -56,39 +51,32 @@ impl Tally {
         Ok(t)
     }
 
-    // After a read: the unread bytes are at the front of the buffer. If none came, the stream is at its end.
-    pub fn refilled(mut self, rt: &impl Print, unread: usize) -> io::Result<Tally> {
-        let is_end = self.to.checked_sub(self.from) == Some(unread);
-        self.from = 0;
-        self.to = unread;
-        if is_end && (0 < unread || 0 < self.since) {
+    // After a read that brought nothing more.
+    pub fn finished(mut self, rt: &impl Print, unread: usize) -> io::Result<Tally> {
+        if 0 < unread || 0 < self.since {
             return self.broken(rt, "the stream ends before it, or in it\n");
         }
-        if is_end {
-            self.state = State::Done;
-        }
+        self.state = State::Done;
         Ok(self)
     }
 
     // After a record that ends a stream.
-    pub fn ended(mut self, rt: &impl Print, e: Entry) -> io::Result<Tally> {
-        if self.since != e.argument {
+    pub fn ended(mut self, rt: &impl Print, h: Head) -> io::Result<Tally> {
+        if self.since != h.argument {
             return self.broken(rt, "the stream ends, and had another number of cases\n");
         }
-        self.from = self.from.wrapping_add(e.size);
         self.since = 0;
         Ok(self)
     }
 
     // After one more case.
-    pub fn after(mut self, rt: &impl Print, e: Entry, is_same: bool) -> io::Result<Tally> {
-        self.from = self.from.wrapping_add(e.size);
+    pub fn after(mut self, rt: &impl Print, h: Head, is_same: bool) -> io::Result<Tally> {
         self.cases = self.cases.wrapping_add(1);
         self.since = self.since.wrapping_add(1);
         if !is_same {
             self.differ = self.differ.wrapping_add(1);
             if self.differ <= NAMED {
-                name(rt, self.cases, e)?;
+                name(rt, self.cases, h)?;
             }
         }
         Ok(self)
@@ -109,8 +97,8 @@ fn say(rt: &impl Print, n: u64, what: &str) -> io::Result<()> {
 }
 
 // Names a case that differs.
-fn name(rt: &impl Print, number: u64, e: Entry) -> io::Result<()> {
-    let class = e.class;
-    let code = e.code;
+fn name(rt: &impl Print, number: u64, h: Head) -> io::Result<()> {
+    let class = h.class;
+    let code = h.code;
     println!(rt; "case {number} differs: class {class}, code 0x{code:02x}")
 }

@@ -1,9 +1,10 @@
 // A case with its wanted answer, and what every comparison shares: buffers that are filled up, and the fields of records made by hand.
 #![tactic(auto)]
 
-ghost use Rattle.std.specs.Prelude.{◌≡◌, true, ◌↔◌, ◌≤◌, ◌<◌, length, replicate, Some};
+ghost use Rattle.std.specs.Prelude.{◌≡◌, true, ◌↔◌, ◌≤◌, ◌<◌, ℕ, length, take, replicate, Some, IfSome};
+ghost use Rattle.std.specs.Fn.{FnOnceReturnsAtMut};
 ghost use Rattle.payload_util.specs.Bytes.{byte_at, u16_at, u32_at, u16_bytes, u32_bytes};
-ghost use Rattle.payload_util.specs.Refusals.{number_of, Guard};
+ghost use Rattle.payload_util.specs.Refusals.{number_of, Guard, Outcome};
 ghost use Rattle.payload_util.specs.Outcome.{outcome};
 ghost use Rattle.payload_util.specs.Guards.{room};
 ghost use Rattle.payload_util.specs.Writing.{room_last};
@@ -144,13 +145,45 @@ pub fn put(into: &mut [u8], from: usize, to: usize, b: u8) -> bool
 
 // Fills the whole buffer with the case's byte. False if it is shorter than the case's room.
 #[tactic(auto, unfolding(crate::specs::Buffer::putting))]
-pub fn fill_up(c: Case, out: &mut [u8]) -> bool
+fn fill_up(c: Case, out: &mut [u8]) -> bool
     ensures fits { (result ≡ true) ↔ c.room ≤ length out.old }
     ensures filled { (result ≡ true) → out.new ≡ replicate (length out.old) c.fill }
     ensures len { length out.new ≡ length out.old }
 {
     let n = out.len();
     c.room <= n && put(out, 0, n, c.fill)
+}
+
+// Fills the whole buffer up and lends its room to the call. None if the buffer is shorter than the room.
+pub fn lend_room<R, F: FnOnce(&mut [u8]) -> R>(c: Case, out: &mut [u8], call: F) -> Option<R>
+    requires callable { F.IsAlwaysCallable call }
+    ensures called { IfSome result (λ r. FnOnceReturnsAtMut F.FnOnce call (replicate c.room c.fill) r (take c.room out.new)) }
+    ensures behind { IfSome result (λ r. AllFrom out.new c.room c.fill) }
+    ensures len { length out.new ≡ length out.old }
+{
+    if !fill_up(c, &mut *out) {
+        return None;
+    }
+    Some(call(&mut out[..c.room]))
+}
+
+// Whether a writer's answer and every byte of a buffer are the wanted ones, after the writer was given only its room. False if it was asked for
+// nothing that can be written.
+pub fn writes_wanted<F: FnOnce(&mut [u8]) -> Option<Result<usize, Refusal>>>(
+    c: Case,
+    want: &[u8],
+    out: &mut [u8],
+    call: F,
+) -> bool
+    requires callable { F.IsAlwaysCallable call }
+    ensures called { (result ≡ true) → (written : Outcome ℕ) × Tried c written want.now out.new
+        × FnOnceReturnsAtMut F.FnOnce call (replicate c.room c.fill) (Some written) (take c.room out.new) }
+    ensures len { length out.new ≡ length out.old }
+{
+    match lend_room(c, &mut *out, call).flatten() {
+        Some(written) => wrote(c, written, want, out),
+        None => false,
+    }
 }
 
 // Whether the answer and every byte of a buffer are the wanted ones, after a writer was given only its room.

@@ -4,7 +4,7 @@
 ghost use Rattle.std.specs.Prelude.{◌≡◌, length};
 
 use frame::Frame;
-use vectors_case::{Case, byte, fill_up, u16_bytes, wrote};
+use vectors_case::{Case, byte, u16_bytes, writes_wanted};
 
 // The bytes before the payload in a frame, and of the fields in an output and in an input.
 const HEAD: usize = 6;
@@ -61,11 +61,7 @@ fn is_read(c: Case, f: &[u8], want: &[u8]) -> bool {
 fn is_written(c: Case, r: Frame, payload: &[u8], want: &[u8], out: &mut [u8]) -> bool
     ensures { length out.new ≡ length out.old }
 {
-    if !fill_up(c, &mut *out) {
-        return false;
-    }
-    let written = r.encode(payload, &mut out[..c.room]);
-    wrote(c, written, want, out)
+    writes_wanted(c, want, out, |room| Some(r.encode(payload, room)))
 }
 
 // Class 15. The wanted output has the fields and then the payload; what was read is written again, and has to be the frame.

@@ -5,7 +5,7 @@ use osdp::{Kind, Side};
 use payload_util::{Refusal, Row};
 use vectors_case::{
     ACURXSIZE, BIOMATCH, BIOMATCHR, BIOREAD, BIOREADR, COM, COMSET, Case, FILETRANSFER, FMT,
-    KEEPACTIVE, KEYPAD, LED, LSTATR, MFG, NAK, OUT, PDID, RAW, TEXT, XRD, fill_up, wrote,
+    KEEPACTIVE, KEYPAD, LED, LSTATR, MFG, NAK, OUT, PDID, RAW, TEXT, XRD, writes_wanted,
 };
 use vectors_kind::reader;
 
@@ -139,15 +139,6 @@ fn reading(c: Case) -> Case {
 }
 
 fn answers(c: Case, call: Call, p: &[u8], want: &[u8], out: &mut [u8]) -> bool {
-    call.check(p).is_some_and(|g| c.guards(g)) && normalises(c, call, p, want, out)
-}
-
-fn normalises(c: Case, call: Call, p: &[u8], want: &[u8], out: &mut [u8]) -> bool {
-    if !fill_up(c, &mut *out) {
-        return false;
-    }
-    match call.normalise(p, &mut out[..c.room]) {
-        Some(written) => wrote(c, written, want, out),
-        None => false,
-    }
+    call.check(p).is_some_and(|g| c.guards(g))
+        && writes_wanted(c, want, out, |room| call.normalise(p, room))
 }

@@ -1,5 +1,11 @@
-// The lists of LED and OUT: records made by hand, in an array that is lent to the list writer.
-ghost use Rattle.std.specs.Prelude.{◌<◌, ◌≤◌, IfSome, length};
+// The lists of LED and OUT: records made by hand that are lent to the list writer.
+ghost use Rattle.std.specs.Prelude.{◌≡◌, List, ◌<◌, IfSome};
+ghost use Rattle.payload_util.specs.Prelude.{code, flat, put_checked};
+ghost use Rattle.payload_util.specs.Guards.{not_empty};
+ghost use Rattle.led.specs.Led.{led_code, led_bytes};
+ghost use Rattle.led.specs.declared.LedRecord.{LedRecord};
+ghost use Rattle.output.specs.Output.{out_code, out_bytes};
+ghost use Rattle.output.specs.declared.OutputRecord.{OutputRecord};
 
 use crate::record;
 use led::LedRecord;
@@ -11,30 +17,54 @@ use vectors_case::{LED_BYTES, OUT_BYTES};
 // The most records that are lent. A case with more of them differs, and so does one whose bytes are not whole records.
 const MOST: usize = 1024;
 
-pub(crate) fn leds(f: &[u8], out: &mut [u8]) -> Option<Result<usize, Refusal>> {
-    let mut list = [record::led(&[]); MOST];
-    let n = fill(&mut list, record::led, LED_BYTES, f)?;
-    Some(LedRecord::encode(&list[..n], out))
+// The arrays are made here: of a type that is a parameter, the check does not know that so many fit into memory. An ArrayVec would need a Default,
+// which a record has not.
+pub(crate) fn leds(f: &[u8], out: &mut [u8]) -> Option<Result<usize, Refusal>>
+    ensures written { IfSome result (λ w. (records : List LedRecord)
+        × ((w, out.new) ≡ put_checked (not_empty led_code records) led_code (flat led_bytes records) out.old)) }
+{
+    lend(
+        &mut [record::led(&[]); MOST],
+        record::led,
+        LED_BYTES,
+        f,
+        out,
+    )
 }
 
-pub(crate) fn outputs(f: &[u8], out: &mut [u8]) -> Option<Result<usize, Refusal>> {
-    let mut list = [record::output(&[]); MOST];
-    let n = fill(&mut list, record::output, OUT_BYTES, f)?;
-    Some(OutputRecord::encode(&list[..n], out))
+pub(crate) fn outputs(f: &[u8], out: &mut [u8]) -> Option<Result<usize, Refusal>>
+    ensures written { IfSome result (λ w. (records : List OutputRecord)
+        × ((w, out.new) ≡ put_checked (not_empty out_code records) out_code (flat out_bytes records) out.old)) }
+{
+    lend(
+        &mut [record::output(&[]); MOST],
+        record::output,
+        OUT_BYTES,
+        f,
+        out,
+    )
 }
 
-// Makes records of size bytes each, and says how many. None if the list is too short, or the bytes are not whole records.
-fn fill<R: Copy, F: Fn(&[u8]) -> R>(list: &mut [R], made: F, size: usize, f: &[u8]) -> Option<usize>
+// Makes records of size bytes each in a list that is long enough, and lends them to the library's writer. None if it is too short, or the bytes are
+// not whole records.
+fn lend<R: ListRecord, F: Fn(&[u8]) -> R>(
+    list: &mut [R],
+    made: F,
+    size: usize,
+    f: &[u8],
+    out: &mut [u8],
+) -> Option<Result<usize, Refusal>>
     requires callable { F.IsAlwaysCallable made }
     requires some { 0 < size }
-    ensures { IfSome result (λ n. n ≤ length list.old) }
+    ensures written { IfSome result (λ w. (records : List R)
+        × ((w, out.new) ≡ put_checked (not_empty (code R.form) records) (code R.form) (flat R.bytes records) out.old)) }
 {
-    let n = f.len() / size;
-    if list.len() < n || f.len() % size != 0 {
+    if f.len() % size != 0 {
         return None;
     }
-    for (record, bytes) in list.iter_mut().zip(f.chunks_exact(size)) {
+    let records = list.get_mut(..f.len() / size)?;
+    for (record, bytes) in records.iter_mut().zip(f.chunks_exact(size)) {
         *record = made(bytes);
     }
-    Some(n)
+    Some(R::encode(records, out))
 }

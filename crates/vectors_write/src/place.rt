@@ -4,23 +4,20 @@ ghost use Rattle.std.specs.Prelude.{◌≡◌, length};
 use crate::record;
 use lists::ListRecord;
 use payload_util::Refusal;
-use vectors_case::{Case, LED, fill_up, filled, holds};
+use vectors_case::{Case, LED, filled, holds, lend_room};
 
 pub fn run(c: Case, input: &[u8], want: &[u8], out: &mut [u8]) -> bool
     ensures { length out.new ≡ length out.old }
 {
-    if !fill_up(c, &mut *out) {
-        return false;
-    }
-    let written = encode_at(c, input, &mut out[..c.room]);
-    wrote_at(c, written, want, out)
+    lend_room(c, &mut *out, |room| encode_at(c, input, room)).is_some_and(|written| wrote_at(
+        c, written, want, out,
+    ))
 }
 
 fn encode_at(c: Case, f: &[u8], out: &mut [u8]) -> Result<usize, Refusal> {
-    if c.code == LED {
-        record::led(f).encode_at(out, c.argument)
-    } else {
-        record::output(f).encode_at(out, c.argument)
+    match c.code {
+        LED => record::led(f).encode_at(out, c.argument),
+        _ => record::output(f).encode_at(out, c.argument),
     }
 }
 

@@ -6,7 +6,7 @@ use payload_util::Refusal;
 use raw_card::Raw;
 use vectors_case::{
     ACURXSIZE, BIOMATCH, BIOMATCHR, BIOREAD, BIOREADR, COM, COMSET, Case, FILETRANSFER, FMT,
-    KEEPACTIVE, KEYPAD, LED, LSTATR, MFG, NAK, OUT, PDID, RAW, TEXT, XRD, fill_up, wrote,
+    KEEPACTIVE, KEYPAD, LED, LSTATR, MFG, NAK, OUT, PDID, RAW, TEXT, XRD, writes_wanted,
 };
 
 const COMMANDS: u8 = 7;
@@ -16,13 +16,7 @@ const BITS: u8 = 9;
 pub fn run(c: Case, input: &[u8], want: &[u8], out: &mut [u8]) -> bool
     ensures { length out.new ≡ length out.old }
 {
-    if !fill_up(c, &mut *out) {
-        return false;
-    }
-    match write(c, input, &mut out[..c.room]) {
-        Some(written) => wrote(c, written, want, out),
-        None => false,
-    }
+    writes_wanted(c, want, out, |room| write(c, input, room))
 }
 
 // The record's fixed fields are before an index, and its tail is from there on. None if the case asks for nothing that can be written.
