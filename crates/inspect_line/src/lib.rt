@@ -56,12 +56,7 @@ pub struct Line {
 }
 
 fn digit(b: u8) -> Option<u8> {
-    match b {
-        b'0'..=b'9' => Some(b - b'0'),
-        b'a'..=b'f' => Some(b - b'a' + 10),
-        b'A'..=b'F' => Some(b - b'A' + 10),
-        _ => None,
-    }
+    char::from(b).to_digit(16).map(|d| d as u8)
 }
 
 // The byte of two digits.
@@ -109,6 +104,10 @@ impl fmt::Display for Fault {
 }
 
 impl Line {
+    ghost use Rattle.std.specs.Prelude.{◌≡◌, ◌+◌, ◌-◌, ◌^◌, [], min};
+    ghost use Rattle.inspect_line.specs.declared.Place.TheVariants.{Start};
+    ghost use Rattle.inspect_line.specs.Line.{bytes_of};
+
     // The first line.
     pub fn new() -> Line {
         Line {
@@ -122,8 +121,13 @@ impl Line {
         }
     }
 
-    // Goes on to the next line.
-    pub fn restart(&mut self) {
+    // Goes on to the next line, of which nothing was taken yet.
+    pub fn restart(&mut self)
+        ensures number { self.new.number ≡ min (self.old.number + 1) (2 ^ 64 - 1) }
+        ensures column { self.new.column ≡ 0 }
+        ensures place { self.new.place ≡ Start }
+        ensures bytes { bytes_of self.new ≡ [] }
+    {
         self.number = self.number.saturating_add(1);
         self.column = 0;
         self.place = Place::Start;
@@ -131,7 +135,9 @@ impl Line {
     }
 
     // The payload; of a line that is wrong in its first word, that word.
-    pub fn bytes(&self) -> &[u8] {
+    pub fn bytes(&self) -> &[u8]
+        ensures { result.now ≡ bytes_of self.now }
+    {
         self.bytes.as_slice()
     }
 
@@ -158,7 +164,7 @@ impl Line {
 
     // After the word.
     fn named(&mut self) -> Result<Place, Fault> {
-        self.side = match self.bytes.as_slice() {
+        self.side = match self.bytes() {
             b"command" => Side::Command,
             b"reply" => Side::Reply,
             _ => {

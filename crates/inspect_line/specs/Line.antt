@@ -1,0 +1,7 @@
+-- What a line holds.
+use Rattle.std.specs.Prelude.{ℕ, List}
+use Rattle.inspect_line.specs.declared.Line.{Line}
+
+-- its payload; before the payload, its first word
+abbrev pub bytes_of : Line → List ℕ
+bytes_of l = l.bytes.items
