@@ -6,10 +6,9 @@ ghost use Rattle.plain.specs.LStat.{l_stat_r};
 ghost use Rattle.plain.specs.Number.{acu_rx_size, keep_active};
 ghost use Rattle.bench_read.specs.Answer.{Answers};
 
-use crate::number::{answer, refused, sum};
-use payload_util::Record;
+use crate::number::{read, sum};
 use plain::acu_rx_size::AcuRxSize;
-use plain::com::Com;
+use plain::com::{AddressAndBaud, Com};
 use plain::comset::ComSet;
 use plain::keep_active::KeepActive;
 use plain::lstat::LStatR;
@@ -29,62 +28,48 @@ fn identity(d: PdId) -> u64 {
     bytes.wrapping_add(d.serial as u64)
 }
 
+fn address_and_baud<const CODE: u8>(c: AddressAndBaud<CODE>) -> u64 {
+    c.address as u64 + c.baud as u64
+}
+
 #[unsafe(no_mangle)]
 pub extern "C" fn bench_read_comset(p: &[u8]) -> i32
     ensures { Answers (check com_set p.now) result }
 {
-    match ComSet::decode(p) {
-        Ok(c) => answer(c.address as u64 + c.baud as u64),
-        Err(e) => refused(e),
-    }
+    read::<ComSet, _>(p, address_and_baud)
 }
 
 #[unsafe(no_mangle)]
 pub extern "C" fn bench_read_com(p: &[u8]) -> i32
     ensures { Answers (check com_reply p.now) result }
 {
-    match Com::decode(p) {
-        Ok(c) => answer(c.address as u64 + c.baud as u64),
-        Err(e) => refused(e),
-    }
+    read::<Com, _>(p, address_and_baud)
 }
 
 #[unsafe(no_mangle)]
 pub extern "C" fn bench_read_pdid(p: &[u8]) -> i32
     ensures { Answers (check pd_id p.now) result }
 {
-    match PdId::decode(p) {
-        Ok(d) => answer(identity(d)),
-        Err(e) => refused(e),
-    }
+    read(p, identity)
 }
 
 #[unsafe(no_mangle)]
 pub extern "C" fn bench_read_lstatr(p: &[u8]) -> i32
     ensures { Answers (check l_stat_r p.now) result }
 {
-    match LStatR::decode(p) {
-        Ok(l) => answer(sum(&[l.tamper, l.power])),
-        Err(e) => refused(e),
-    }
+    read(p, |l: LStatR| sum(&[l.tamper, l.power]))
 }
 
 #[unsafe(no_mangle)]
 pub extern "C" fn bench_read_acurxsize(p: &[u8]) -> i32
     ensures { Answers (check acu_rx_size p.now) result }
 {
-    match AcuRxSize::decode(p) {
-        Ok(a) => answer(a.max_size as u64),
-        Err(e) => refused(e),
-    }
+    read(p, |a: AcuRxSize| a.max_size as u64)
 }
 
 #[unsafe(no_mangle)]
 pub extern "C" fn bench_read_keepactive(p: &[u8]) -> i32
     ensures { Answers (check keep_active p.now) result }
 {
-    match KeepActive::decode(p) {
-        Ok(k) => answer(k.duration_ms as u64),
-        Err(e) => refused(e),
-    }
+    read(p, |k: KeepActive| k.duration_ms as u64)
 }

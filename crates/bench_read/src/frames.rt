@@ -6,10 +6,11 @@ ghost use Rattle.frame.specs.Frame.{check_frame, write_frame};
 ghost use Rattle.osdp.specs.Signed.{count_of, effect_of, Short};
 ghost use Rattle.bench_read.specs.Answer.{Answers};
 
-use crate::number::{refused, sum, tailed};
+use crate::number::{answer, refused, sum, tailed};
 use frame::Frame;
 use payload_util::Refusal;
 
+// Not by `number::read`: a frame is no `Record`.
 #[unsafe(no_mangle)]
 pub extern "C" fn bench_read_frame(f: &[u8]) -> i32
     ensures { Answers (check_frame f.now) result }
@@ -23,12 +24,13 @@ pub extern "C" fn bench_read_frame(f: &[u8]) -> i32
                 u8::from(r.crc),
                 r.code,
             ]);
-            tailed(n, r.payload_in(f))
+            answer(tailed(n, r.payload_in(f)))
         }
         Err(e) => refused(e),
     }
 }
 
+// osdp_c has the same: neither static library can use the other, and in osdp it would be a public function that asks something of its caller.
 fn count_of(written: Result<usize, Refusal>) -> i32
     requires { Short written }
     ensures { result ≡ count_of written }

@@ -61,6 +61,7 @@ fn outputs(p: &[u8]) -> u64 {
     n
 }
 
+// These two are not by `number::read`: a list is no `Record`.
 #[unsafe(no_mangle)]
 pub extern "C" fn bench_read_led(p: &[u8]) -> i32
     ensures { Answers (check leds p.now) result }

@@ -1,8 +1,9 @@
 // What was read, as one number: the sum of all fields, of the tail's length and of its last byte.
 ghost use Rattle.std.specs.Prelude.{◌≡◌};
-ghost use Rattle.bench_read.specs.Answer.{NotNegative, minus_row};
+ghost use Rattle.payload_util.specs.Prelude.{check};
+ghost use Rattle.bench_read.specs.Answer.{Answers, NotNegative, minus_row};
 
-use payload_util::Refusal;
+use payload_util::{Record, Refusal};
 
 // The answers are below this one.
 const LIMIT: u64 = 0x8000_0000;
@@ -19,16 +20,25 @@ pub(crate) fn answer(n: u64) -> i32
     (n.wrapping_add(n / LIMIT) % LIMIT) as i32
 }
 
-// The byte of an empty tail is 0.
-pub(crate) fn tailed(n: u64, tail: &[u8]) -> i32
-    ensures { NotNegative result }
-{
+// A number with a tail. The byte of an empty tail is 0.
+pub(crate) fn tailed(n: u64, tail: &[u8]) -> u64 {
     let last = tail.last().copied().unwrap_or(0);
-    answer(n.wrapping_add(tail.len() as u64).wrapping_add(last as u64))
+    n.wrapping_add(tail.len() as u64).wrapping_add(last as u64)
 }
 
 pub(crate) fn refused(e: Refusal) -> i32
     ensures { result ≡ minus_row e }
 {
     -(e.row.number() as i32)
+}
+
+// What the call for a kind answers; `number` sums its record.
+pub(crate) fn read<R: Record, F: FnOnce(R) -> u64>(p: &[u8], number: F) -> i32
+    requires { F.IsAlwaysCallable number }
+    ensures { Answers (check R.form p.now) result }
+{
+    match R::decode(p) {
+        Ok(r) => answer(number(r)),
+        Err(e) => refused(e),
+    }
 }
