@@ -6,7 +6,8 @@ ghost use Rattle.plain.specs.LStat.{l_stat_r};
 ghost use Rattle.plain.specs.Number.{acu_rx_size, keep_active};
 ghost use Rattle.bench_read.specs.Answer.{Answers};
 
-use crate::number::{read, sum};
+use crate::number::{answered, sum};
+use payload_util::Record;
 use plain::acu_rx_size::AcuRxSize;
 use plain::com::{AddressAndBaud, Com};
 use plain::comset::ComSet;
@@ -36,40 +37,40 @@ fn address_and_baud<const CODE: u8>(c: AddressAndBaud<CODE>) -> u64 {
 pub extern "C" fn bench_read_comset(p: &[u8]) -> i32
     ensures { Answers (check com_set p.now) result }
 {
-    read::<ComSet, _>(p, address_and_baud)
+    answered(ComSet::decode(p), address_and_baud)
 }
 
 #[unsafe(no_mangle)]
 pub extern "C" fn bench_read_com(p: &[u8]) -> i32
     ensures { Answers (check com_reply p.now) result }
 {
-    read::<Com, _>(p, address_and_baud)
+    answered(Com::decode(p), address_and_baud)
 }
 
 #[unsafe(no_mangle)]
 pub extern "C" fn bench_read_pdid(p: &[u8]) -> i32
     ensures { Answers (check pd_id p.now) result }
 {
-    read(p, identity)
+    answered(PdId::decode(p), identity)
 }
 
 #[unsafe(no_mangle)]
 pub extern "C" fn bench_read_lstatr(p: &[u8]) -> i32
     ensures { Answers (check l_stat_r p.now) result }
 {
-    read(p, |l: LStatR| sum(&[l.tamper, l.power]))
+    answered(LStatR::decode(p), |l| sum(&[l.tamper, l.power]))
 }
 
 #[unsafe(no_mangle)]
 pub extern "C" fn bench_read_acurxsize(p: &[u8]) -> i32
     ensures { Answers (check acu_rx_size p.now) result }
 {
-    read(p, |a: AcuRxSize| a.max_size as u64)
+    answered(AcuRxSize::decode(p), |a| a.max_size as u64)
 }
 
 #[unsafe(no_mangle)]
 pub extern "C" fn bench_read_keepactive(p: &[u8]) -> i32
     ensures { Answers (check keep_active p.now) result }
 {
-    read(p, |k: KeepActive| k.duration_ms as u64)
+    answered(KeepActive::decode(p), |k| k.duration_ms as u64)
 }

@@ -6,28 +6,24 @@ ghost use Rattle.frame.specs.Frame.{check_frame, write_frame};
 ghost use Rattle.osdp.specs.Signed.{count_of, effect_of, Short};
 ghost use Rattle.bench_read.specs.Answer.{Answers};
 
-use crate::number::{answer, refused, sum, tailed};
+use crate::number::{answered, refused, sum, tailed};
 use frame::Frame;
 use payload_util::Refusal;
 
-// Not by `number::read`: a frame is no `Record`.
 #[unsafe(no_mangle)]
 pub extern "C" fn bench_read_frame(f: &[u8]) -> i32
     ensures { Answers (check_frame f.now) result }
 {
-    match Frame::decode(f) {
-        Ok(r) => {
-            let n = sum(&[
-                r.address,
-                u8::from(r.reply),
-                r.sequence,
-                u8::from(r.crc),
-                r.code,
-            ]);
-            answer(tailed(n, r.payload_in(f)))
-        }
-        Err(e) => refused(e),
-    }
+    answered(Frame::decode(f), |r| {
+        let n = sum(&[
+            r.address,
+            u8::from(r.reply),
+            r.sequence,
+            u8::from(r.crc),
+            r.code,
+        ]);
+        tailed(n, r.payload_in(f))
+    })
 }
 
 // osdp_c has the same: neither static library can use the other, and in osdp it would be a public function that asks something of its caller.

@@ -3,7 +3,7 @@
 // it is. Of the writer of frames and of the CRC they say everything.
 #![tactic(auto)]
 
-use crate::number::{answer, read, refused, sum, tailed};
+use crate::number::{answer, answered, refused, sum, tailed};
 use bio::{BioMatchR, BioReadR};
 use biometric::{BioHead, BioMatch, BioRead};
 use file_transfer::FileTransfer;
@@ -50,7 +50,7 @@ fn raw(r: Raw) -> u64 {
     sum(&[r.reader, r.format_code]).wrapping_add(r.bit_count as u64)
 }
 
-// Not by `read`: with the closure it is slower, 178 instructions in place of 169 for a text of 24 bytes, and 1,011 in place of 988 for one of 255.
+// Not by `answered`: with the closure it is slower, 178 instructions in place of 169 for a text of 24 bytes, and 1,011 in place of 988 for one of 255.
 #[unsafe(no_mangle)]
 pub extern "C" fn bench_read_text(p: &[u8]) -> i32
     ensures { Answers (check text_kind p.now) result }
@@ -74,23 +74,26 @@ pub extern "C" fn bench_read_text(p: &[u8]) -> i32
 pub extern "C" fn bench_read_bioread(p: &[u8]) -> i32
     ensures { Answers (check bio_read p.now) result }
 {
-    read(p, |b: BioRead| head(b.head))
+    answered(BioRead::decode(p), |b| head(b.head))
 }
 
 #[unsafe(no_mangle)]
 pub extern "C" fn bench_read_biomatch(p: &[u8]) -> i32
     ensures { Answers (check bio_match p.now) result }
 {
-    read(p, |b: BioMatch| tailed(head(b.head), BioMatch::template(p)))
+    answered(
+        BioMatch::decode(p),
+        |b| tailed(head(b.head), BioMatch::template(p)),
+    )
 }
 
 #[unsafe(no_mangle)]
 pub extern "C" fn bench_read_filetransfer(p: &[u8]) -> i32
     ensures { Answers (check file_transfer p.now) result }
 {
-    read(
-        p,
-        |f: FileTransfer| tailed(file(f), FileTransfer::fragment(p)),
+    answered(
+        FileTransfer::decode(p),
+        |f| tailed(file(f), FileTransfer::fragment(p)),
     )
 }
 
@@ -98,9 +101,9 @@ pub extern "C" fn bench_read_filetransfer(p: &[u8]) -> i32
 pub extern "C" fn bench_read_mfg(p: &[u8]) -> i32
     ensures { Answers (check mfg p.now) result }
 {
-    read(
-        p,
-        |m: Mfg| tailed(sum(&[m.oui_0, m.oui_1, m.oui_2]), Mfg::payload(p)),
+    answered(
+        Mfg::decode(p),
+        |m| tailed(sum(&[m.oui_0, m.oui_1, m.oui_2]), Mfg::payload(p)),
     )
 }
 
@@ -108,16 +111,16 @@ pub extern "C" fn bench_read_mfg(p: &[u8]) -> i32
 pub extern "C" fn bench_read_raw(p: &[u8]) -> i32
     ensures { Answers (check raw p.now) result }
 {
-    read(p, |r: Raw| tailed(raw(r), Raw::bits(p)))
+    answered(Raw::decode(p), |r| tailed(raw(r), Raw::bits(p)))
 }
 
 #[unsafe(no_mangle)]
 pub extern "C" fn bench_read_fmt(p: &[u8]) -> i32
     ensures { Answers (check fmt p.now) result }
 {
-    read(
-        p,
-        |f: Fmt| tailed(sum(&[f.reader, f.direction, f.char_count]), Fmt::chars(p)),
+    answered(
+        Fmt::decode(p),
+        |f| tailed(sum(&[f.reader, f.direction, f.char_count]), Fmt::chars(p)),
     )
 }
 
@@ -125,23 +128,29 @@ pub extern "C" fn bench_read_fmt(p: &[u8]) -> i32
 pub extern "C" fn bench_read_bioreadr(p: &[u8]) -> i32
     ensures { Answers (check bio_read_r p.now) result }
 {
-    read(p, |b: BioReadR| tailed(head(b.head), BioReadR::data(p)))
+    answered(
+        BioReadR::decode(p),
+        |b| tailed(head(b.head), BioReadR::data(p)),
+    )
 }
 
 #[unsafe(no_mangle)]
 pub extern "C" fn bench_read_biomatchr(p: &[u8]) -> i32
     ensures { Answers (check bio_match_r p.now) result }
 {
-    read(p, |b: BioMatchR| sum(&[b.reader, b.result, b.score]))
+    answered(
+        BioMatchR::decode(p),
+        |b| sum(&[b.reader, b.result, b.score]),
+    )
 }
 
 #[unsafe(no_mangle)]
 pub extern "C" fn bench_read_nak(p: &[u8]) -> i32
     ensures { Answers (check nak p.now) result }
 {
-    read(
-        p,
-        |n: Nak| tailed(n.error.as_byte() as u64, Nak::completion_codes(p)),
+    answered(
+        Nak::decode(p),
+        |n| tailed(n.error.as_byte() as u64, Nak::completion_codes(p)),
     )
 }
 
@@ -149,15 +158,15 @@ pub extern "C" fn bench_read_nak(p: &[u8]) -> i32
 pub extern "C" fn bench_read_xrd(p: &[u8]) -> i32
     ensures { Answers (check xrd p.now) result }
 {
-    read(p, |x: Xrd| tailed(x.mode as u64, Xrd::payload(p)))
+    answered(Xrd::decode(p), |x| tailed(x.mode as u64, Xrd::payload(p)))
 }
 
 #[unsafe(no_mangle)]
 pub extern "C" fn bench_read_keypad(p: &[u8]) -> i32
     ensures { Answers (check keypad p.now) result }
 {
-    read(
-        p,
-        |k: Keypad| tailed(sum(&[k.reader, k.digit_count]), Keypad::digits(p)),
+    answered(
+        Keypad::decode(p),
+        |k| tailed(sum(&[k.reader, k.digit_count]), Keypad::digits(p)),
     )
 }

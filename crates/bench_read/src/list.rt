@@ -4,7 +4,7 @@ ghost use Rattle.led.specs.Led.{leds};
 ghost use Rattle.output.specs.Output.{outputs};
 ghost use Rattle.bench_read.specs.Answer.{Answers};
 
-use crate::number::{answer, refused, sum};
+use crate::number::{answered, sum};
 use led::{LedPermanent, LedRecord, LedTemporary};
 use led_walker::LedWalker;
 use lists::ListRecord;
@@ -61,23 +61,16 @@ fn outputs(p: &[u8]) -> u64 {
     n
 }
 
-// These two are not by `number::read`: a list is no `Record`.
 #[unsafe(no_mangle)]
 pub extern "C" fn bench_read_led(p: &[u8]) -> i32
     ensures { Answers (check leds p.now) result }
 {
-    match LedWalker::start(p) {
-        Ok(walker) => answer(leds(walker)),
-        Err(e) => refused(e),
-    }
+    answered(LedWalker::start(p), leds)
 }
 
 #[unsafe(no_mangle)]
 pub extern "C" fn bench_read_out(p: &[u8]) -> i32
     ensures { Answers (check outputs p.now) result }
 {
-    match OutputRecord::check(p) {
-        Ok(()) => answer(outputs(p)),
-        Err(e) => refused(e),
-    }
+    answered(OutputRecord::check(p), |()| outputs(p))
 }

@@ -1,9 +1,9 @@
 // What was read, as one number: the sum of all fields, of the tail's length and of its last byte.
 ghost use Rattle.std.specs.Prelude.{◌≡◌};
-ghost use Rattle.payload_util.specs.Prelude.{check};
+ghost use Rattle.payload_util.specs.Prelude.{guard_of};
 ghost use Rattle.bench_read.specs.Answer.{Answers, NotNegative, minus_row};
 
-use payload_util::{Record, Refusal};
+use payload_util::Refusal;
 
 // The answers are below this one.
 const LIMIT: u64 = 0x8000_0000;
@@ -32,12 +32,12 @@ pub(crate) fn refused(e: Refusal) -> i32
     -(e.row.number() as i32)
 }
 
-// What the call for a kind answers; `number` sums its record.
-pub(crate) fn read<R: Record, F: FnOnce(R) -> u64>(p: &[u8], number: F) -> i32
+// What a call answers; `number` sums what was read.
+pub(crate) fn answered<R, F: FnOnce(R) -> u64>(read: Result<R, Refusal>, number: F) -> i32
     requires { F.IsAlwaysCallable number }
-    ensures { Answers (check R.form p.now) result }
+    ensures { Answers (guard_of read) result }
 {
-    match R::decode(p) {
+    match read {
         Ok(r) => answer(number(r)),
         Err(e) => refused(e),
     }
