@@ -1,5 +1,5 @@
 // The stream of cases, and the space that it is read into.
-ghost use Rattle.std.specs.Prelude.{◌≤◌};
+ghost use Rattle.std.specs.Prelude.{◌≡◌, ◌≤◌, ◌-◌};
 
 use payload_util::Refusal;
 use std::io;
@@ -147,22 +147,26 @@ impl Space {
         }
     }
 
-    pub fn unread(&self) -> usize {
+    pub fn unread(&self) -> usize
+        ensures { result ≡ self.now.to - self.now.from }
+    {
         self.to - self.from
     }
 
     // Takes a case, and puts its input and its output into the space. None if only the beginning of a case is there, or nothing.
     pub fn take(&mut self) -> Result<Option<Entry>, Unfit> {
         let unread = &self.bytes[self.from..self.to];
-        match read_packed(unread) {
-            Some(p) if p.size() <= unread.len() => {
-                let at = self.from.saturating_add(p.head_size);
-                let entry = unpack(&mut self.bytes, at, p)?;
-                self.from += p.size();
-                Ok(Some(entry))
-            }
-            _ => Ok(None),
+        let Some(p) = read_packed(unread) else {
+            return Ok(None);
+        };
+        let size = p.size();
+        if unread.len() < size {
+            return Ok(None);
         }
+        let at = self.from.saturating_add(p.head_size);
+        let entry = unpack(&mut self.bytes, at, p)?;
+        self.from += size;
+        Ok(Some(entry))
     }
 
     // The input and the output of the case that was taken last.
