@@ -1,7 +1,7 @@
 // osdp_LED (0x69), reader LED control: a list of records, each with a temporary and a permanent half.
 #![tactic(auto)]
 
-ghost use Rattle.std.specs.Prelude.{◌≡◌, ◌*◌, ◌/◌, ◌≤◌, ◌<◌, length, take, refl};
+ghost use Rattle.std.specs.Prelude.{◌≡◌, ◌*◌, ◌/◌, ◌≤◌, ◌<◌, length, refl};
 ghost use Rattle.std.proofs.Common.{arith};
 ghost use Rattle.payload_util.specs.Prelude.{in_order, keep, times, limited, within_limits};
 ghost use Rattle.payload_util.specs.declared.Row.TheVariants.{Folded};
@@ -163,10 +163,11 @@ impl Payload for LedRecord {
         require_positive_multiple_of(p, Self::WIRE_LEN, Self::CODE)
     }
 
-    // The payload as it came, and then its colours folded where it is: a colour above the highest becomes Black.
+    // The payload as it came, and then its colours folded where it is.
+    #[tactic(auto, using(payload_util::proofs::Losses::length_keep))]
     fn put_kept(p: &[u8], out: &mut [u8]) -> Result<usize, Refusal> {
         let written = put_payload(p, Self::CODE, out)?;
-        Self::fold_all(p, out);
+        Self::fold_all(&mut out[..written]);
         Ok(written)
     }
 
@@ -242,30 +243,24 @@ impl LedRecord {
         Some(Self::fields(part))
     }
 
-    // Folds the colours of a record into a copy of it. All are read before one is written, so the compiler need not read any again.
-    fn fold(from: &[u8], bytes: &mut [u8])
-        requires { (14 ≤ length from.now) × (14 ≤ length bytes.old) × (from.now ≡ bytes.old) }
+    // Folds the colours of a record: one above the highest becomes Black.
+    fn fold(bytes: &mut [u8])
+        requires { 14 ≤ length bytes.old }
         ensures { bytes.new ≡ keep (led_limits highest_color) bytes.old }
     {
-        let temporary_on = folded(from[5], LedColor::HIGHEST);
-        let temporary_off = folded(from[6], LedColor::HIGHEST);
-        let permanent_on = folded(from[12], LedColor::HIGHEST);
-        let permanent_off = folded(from[13], LedColor::HIGHEST);
-        bytes[5] = temporary_on;
-        bytes[6] = temporary_off;
-        bytes[12] = permanent_on;
-        bytes[13] = permanent_off;
+        bytes[5] = folded(bytes[5], LedColor::HIGHEST);
+        bytes[6] = folded(bytes[6], LedColor::HIGHEST);
+        bytes[12] = folded(bytes[12], LedColor::HIGHEST);
+        bytes[13] = folded(bytes[13], LedColor::HIGHEST);
     }
 
-    // Folds the colours of all records of a payload whose copy is at the front of out. By number: two rows of chunks, zipped, take a fifth longer.
-    fn fold_all(p: &[u8], out: &mut [u8])
-        requires { take (length p.now) out.old ≡ p.now }
-        ensures { out.new ≡ keep (times (length p.now / 14) (led_limits highest_color)) out.old }
+    // Folds the colours of all records. By number, since of a slice lent in chunks it is not known what it ends as.
+    fn fold_all(p: &mut [u8])
+        ensures { p.new ≡ keep (times (length p.old / 14) (led_limits highest_color)) p.old }
     {
         for k in 0..p.len() / Self::WIRE_LEN {
             let start = k * Self::WIRE_LEN;
-            let end = start + Self::WIRE_LEN;
-            Self::fold(&p[start..end], &mut out[start..end]);
+            Self::fold(&mut p[start..start + Self::WIRE_LEN]);
         }
     }
 

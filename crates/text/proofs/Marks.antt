@@ -1,6 +1,6 @@
--- A text that is checked in two parts; the test on a word of n bytes, byte by byte; the bytes of a word; and what `all` answers. Assumes nothing.
+-- A text that is checked in two parts; the test on a word of n bytes, byte by byte; the bytes of a word; and what `all` and `position` answer. Assumes nothing.
 use mathlib.Core.Path.{◌≡◌, refl, sym, ap, ap₂, ◌∙◌}
-use mathlib.Core.Bool.{Bool, true, false, ◌&&◌}
+use mathlib.Core.Bool.{Bool, true, false, not, cond, ◌&&◌}
 use mathlib.Core.List.{List, [], ◌∷◌}
 use Prim.Native.Nat.{ℕ, zero, suc, ◌+◌, ◌-◌, ◌*◌, ◌/◌, ◌%◌, ◌≤◌, ◌<◌}
 use native.Mathlib.Omega.{arith}
@@ -14,8 +14,9 @@ use Rattle.payload_util.specs.Bytes.{Bytes}
 use Rattle.payload_util.specs.Refusals.{require, ◌also◌, in_order, Guard, refusal}
 use Rattle.payload_util.proofs.Below.{all, below}
 use Rattle.text.specs.Text.{text_code, printable_at, printable, bytes_of, KnownWord}
-use Rattle.std.specs.Prelude.{Ok, Err}
-use Rattle.std.specs.List.{list_all}
+use Rattle.std.specs.Prelude.{Ok, Err, Some}
+use Rattle.std.specs.List.{list_all, position_from}
+use Rattle.std.specs.Option.{is_some}
 use Rattle.std.specs.Simd.{first_chunks}
 use Rattle.std.specs.Int.{w64, from_le_bytes}
 use Rattle.payload_util.specs.declared.Row.TheVariants.{UnprintableText}
@@ -185,7 +186,7 @@ word_read s w l b e =
     let is : w ≡ word_of 8 0 s = omega (arith, e) in
     ap (bytes_of 8) is ∙ word_bytes 8 0 s (omega arith) b ∙ take_all 8 s (omega arith)
 
--- ---- what `all` answers over the words and over single bytes
+-- ---- what `position` answers over the words, and `all` over single bytes
 
 -- a text's answer as a yes or no
 abbrev pub all_shown : List ℕ → Bool
@@ -228,3 +229,13 @@ in_words n s t e = rw e (words_told n s)
 pub told_is : (t : Bool) (g : Guard) → told t ≡ g → t ≡ passes g
 told_is true g e = rw (← e)
 told_is false g e = rw (← e)
+
+-- no word is another one if all are good
+pub none_other : {X : Type 0} (good : X → Bool) (i : ℕ) (xs : List X) → not (is_some (position_from (λ x. not (good x)) i xs)) ≡ list_all good xs
+none_other good i [] = refl
+none_other good i (x ∷ xs) = by (good x) (none_other good (i + 1) xs)
+  where
+    by : (t : Bool) → not (is_some (position_from (λ y. not (good y)) (i + 1) xs)) ≡ list_all good xs
+        → not (is_some (cond (not t) (Some i) (position_from (λ y. not (good y)) (i + 1) xs))) ≡ t && list_all good xs
+    by true e = e
+    by false e = refl

@@ -104,12 +104,14 @@ impl Text {
         )
     }
 
-    // Whether every byte lies in 0x20 to 0x7E: eight as one word while there are eight, and the rest singly.
+    // Whether every byte lies in 0x20 to 0x7E: eight as one word while there are eight, and the rest singly. The words by `position`, since the loop that
+    // `all` becomes takes longer.
     fn printable_text(s: &[u8]) -> bool
         ensures { require result (refusal UnprintableText text_code 0 0) ≡ printable s.now }
     {
         let (words, rest) = s.as_chunks::<8>();
-        words.iter().all(Self::printable_word) && Self::printable_singly(rest)
+        let other = words.iter().position(|w| !Self::printable_word(w));
+        other.is_none() && Self::printable_singly(rest)
     }
 
     fn printable_singly(s: &[u8]) -> bool

@@ -14,6 +14,7 @@ pub fn run(c: Case, input: &[u8], want: &[u8], out: &mut [u8]) -> bool
     ))
 }
 
+// Two arms, since the record's type goes by the code byte; each is one call.
 fn encode_at(c: Case, f: &[u8], out: &mut [u8]) -> Result<usize, Refusal> {
     match c.code {
         LED => record::led(f).encode_at(out, c.argument),

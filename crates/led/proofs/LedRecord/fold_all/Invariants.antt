@@ -5,4 +5,4 @@ use Rattle.led.specs.Led.{highest_color, led_limits}
 use Rattle.led.proofs.LedRecord.fold_all.Given as goal
 
 abbrev pub invariant-loop-k : goal.invariant-loop-k
-invariant-loop-k l = l.out ≡ keep (times l.k (led_limits highest_color)) l.initial.out
+invariant-loop-k l = l.p ≡ keep (times l.k (led_limits highest_color)) l.initial.p

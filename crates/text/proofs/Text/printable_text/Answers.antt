@@ -1,27 +1,37 @@
--- `Text::printable_text` meets its contract: `all` asks each word, and the rest is asked if none fails. Assumes nothing.
-use Rattle.std.proofs.Common.{rules, ◌≡◌, ◌/◌, true, false, length, ap, sym, ◌∙◌}
+-- `Text::printable_text` meets its contract: `position` finds no word that fails, and the rest is asked then. Assumes nothing.
+use Rattle.std.proofs.Common.{rules, ◌≡◌, ◌/◌, Bool, true, false, length, ap, sym, ◌∙◌}
+use mathlib.Core.Bool.{not}
 use Rattle.std.specs.List.{list_all}
+use Rattle.std.specs.Option.{is_some}
 use Rattle.std.specs.Simd.{first_chunks}
 use Rattle.std.proofs.lemmas.Iterator.{YieldsList-from_slice}
-use Rattle.std.proofs.lemmas.Iterator.Search.{all_from_yields_List}
+use Rattle.std.proofs.lemmas.Iterator.Search.{position_from_yields_List}
+use Rattle.std.proofs.lemmas.Iterator.Adapters.{position_from-zero}
+use borrow.Author.Tests.{tests}
 use Rattle.text.specs.Text.{printable}
-use Rattle.text.proofs.Marks.{told, told_is, all_shown, in_words}
+use Rattle.text.proofs.Marks.{told, told_is, all_shown, in_words, none_other}
 use Rattle.text.proofs.Text.printable_text.Goals as goal
-use Rattle.text.proofs.Text.printable_text.Goals.{After-all}
+use Rattle.text.proofs.Text.printable_text.Goals.{After-is_none}
 
--- what `all` says of the words
-asked : (c : After-all) → c.all.result ≡ list_all all_shown (first_chunks 8 (length c.args.s.now / 8) c.args.s.now)
+turned : (s t : Bool) → s ≡ not t → t ≡ not s
+turned s true e = ap not (sym e)
+turned s false e = ap not (sym e)
+
+-- what `position` says of the words
+asked : (c : After-is_none) → c.is_none.result ≡ list_all all_shown (first_chunks 8 (length c.args.s.now / 8) c.args.s.now)
 asked c =
-    all_from_yields_List all_shown _ _ c.all.result c.all.ensures.ran (YieldsList-from_slice (first_chunks 8 (length c.args.s.now / 8) c.args.s.now) cc)
-    (λ x b q k. (search rules, told_is b (printable x.now) (search rules)))
+    let words = first_chunks 8 (length c.args.s.now / 8) c.args.s.now in
+    let found = position_from_yields_List (λ w. not (all_shown w)) _ _ c.position-other.result c.position-other.ensures.ran (YieldsList-from_slice words cc)
+    (λ x b q k. (search rules, turned _ _ (sym (told_is (not b) (printable x.now) (search (rules, tests)))))) in
+    turned _ _ c.is_none.ensures ∙ ap (λ r. not (is_some r)) (found ∙ position_from-zero (λ w. not (all_shown w)) words) ∙ none_other all_shown 0 words
 
-pub returns-then-all : goal.returns-then-all
-returns-then-all c =
+pub returns-then-is_none : goal.returns-then-is_none
+returns-then-is_none c =
     let s = c.args.s.now in
     c.printable_singly.ensures ∙ ap printable c.as_chunks.ensures.back
-    ∙ in_words (length s / 8) s true (sym c.if-all.true ∙ asked (goal.at.returns-then-all c).After-all)
+    ∙ in_words (length s / 8) s true (sym c.if-is_none.true ∙ asked (goal.at.returns-then-is_none c).After-is_none)
 
-pub returns-else-all : goal.returns-else-all
-returns-else-all c =
+pub returns-else-is_none : goal.returns-else-is_none
+returns-else-is_none c =
     let s = c.args.s.now in
-    ap told c.if-all.false ∙ in_words (length s / 8) s false (sym c.if-all.false ∙ asked (goal.at.returns-else-all c).After-all)
+    ap told c.if-is_none.false ∙ in_words (length s / 8) s false (sym c.if-is_none.false ∙ asked (goal.at.returns-else-is_none c).After-is_none)
