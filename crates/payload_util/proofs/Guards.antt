@@ -15,6 +15,10 @@ use Rattle.payload_util.specs.Guards.{exact_len, at_least, blocks_from, positive
 use Rattle.payload_util.specs.declared.Refusal.{Refusal}
 use Rattle.std.specs.Prelude.{Ok, Err}
 
+-- an answer is no refusal
+pub no_refusal : {A : Type 0} {a : A} {e : Refusal} → ◌≡◌ {A = Outcome A} (Ok a) (Err e) → ⊥
+no_refusal h = let z : ◌≡◌ {A = ℕ} 0 1 = cc in omega arith
+
 -- ---- a guard that passes
 
 pub check_pass : (b : Bool) (e : Refusal) → require b e ≡ Pass → b ≡ true
@@ -27,7 +31,7 @@ both false b h = let z : false ≡ true = h in (z, cc)
 
 pub also_pass : (g h : Guard) → (g also h) ≡ Pass → (g ≡ Pass) × (h ≡ Pass)
 also_pass (Ok _) h e = (refl, e)
-also_pass (Err r) h e = let z : ◌≡◌ {A = ℕ} 0 1 = cc in absurd (omega arith)
+also_pass (Err r) h e = absurd (no_refusal (sym e))
 
 -- the two halves of `also_pass`: with them, `search (also_left, also_right)` finds any guard of a row
 pub also_left : (g h : Guard) → (g also h) ≡ Pass → g ≡ Pass
@@ -39,7 +43,7 @@ also_right g h e = (also_pass g h e).1
 -- a record is given only if the checks pass
 pub gives_pass : {A : Type 0} (g : Guard) (a r : A) → outcome g a ≡ Ok r → (g ≡ Pass) × (a ≡ r)
 gives_pass (Ok _) a r e = (refl, cc)
-gives_pass (Err f) a r e = let z : ◌≡◌ {A = ℕ} 0 1 = cc in absurd (omega arith)
+gives_pass (Err f) a r e = absurd (no_refusal (sym e))
 
 module _ (n code : ℕ) (p : List ℕ) where
   pub exact_pass : exact_len n code p ≡ Pass → length p ≡ n
