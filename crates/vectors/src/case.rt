@@ -27,29 +27,31 @@ pub fn run(h: Head, input: &[u8], want: &[u8], out: &mut [u8]) -> bool {
             class: h.class,
             code: h.code,
             argument: h.argument,
+            input,
             wanted,
+            want,
             room: h.room.unwrap_or(room),
             fill,
         };
-        if !once(c, input, want, &mut *out) {
+        if !once(c, &mut *out) {
             return false;
         }
     }
     true
 }
 
-fn once(c: Case, input: &[u8], want: &[u8], out: &mut [u8]) -> bool {
+fn once(c: Case, out: &mut [u8]) -> bool {
     match c.class {
-        0 => table::run(c, input, want),
-        1..=4 => guard::run(c, input),
-        5..=6 => payload::run(c, input, want, out),
-        7..=9 => writer::run(c, input, want, out),
-        10 => list::record(c, input, want),
-        11 => walker::start(c, input, want),
-        12 => walker::run(c, input, want),
-        13 => list::record_at(c, input, want),
-        PLACE => place::run(c, input, want, out),
-        15..=17 => vectors_frame::run(c, input, want, out),
+        0 => table::run(c),
+        1..=4 => guard::run(c),
+        5..=6 => payload::run(c, out),
+        7..=9 => writer::run(c, out),
+        10 => list::record(c),
+        11 => walker::start(c),
+        12 => walker::run(c),
+        13 => list::record_at(c),
+        PLACE => place::run(c, out),
+        15..=17 => vectors_frame::run(c, out),
         _ => false,
     }
 }

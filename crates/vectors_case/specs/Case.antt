@@ -1,7 +1,9 @@
 -- The wanted answer of a case, and the wanted buffer.
 use Rattle.std.specs.Prelude.{◌≡◌, List, ℕ, ◌≤◌, length, take, replicate, Ok, Err}
 use Rattle.payload_util.specs.Refusals.{number_of, Outcome, Guard}
-use Rattle.payload_util.specs.Writing.{Effect, put_checked}
+use Rattle.payload_util.specs.Outcome.{outcome}
+use Rattle.payload_util.specs.Guards.{room}
+use Rattle.payload_util.specs.Writing.{Effect, room_last, put_checked}
 use Rattle.vectors_case.specs.Buffer.{AllFrom}
 use Rattle.vectors_case.specs.declared.Case.{Case}
 
@@ -10,12 +12,16 @@ abbrev pub IsWanted : ℕ → ℕ → ℕ → ℕ → Guard → Type 0
 IsWanted number code first second (Ok _) = number ≡ 0
 IsWanted number code first second (Err e) = (number_of e.row ≡ number) × (e.code ≡ code) × (e.first ≡ first) × (e.second ≡ second)
 
+-- the wanted answer of a writer that is given room for so many bytes
+abbrev pub wanted_answer : Case → ℕ → Outcome ℕ
+wanted_answer c given = let n = length c.want.now in outcome (room_last c.wanted (room c.code n given)) n
+
 -- what a writer of the wanted bytes leaves in a buffer of n bytes that was filled up
-abbrev pub wanted_effect : Case → List ℕ → ℕ → Effect
-wanted_effect c want n = put_checked c.wanted c.code want (replicate n c.fill)
+abbrev pub wanted_effect : Case → ℕ → Effect
+wanted_effect c n = put_checked c.wanted c.code c.want.now (replicate n c.fill)
 
 -- the answer and the buffer after a writer was given only its room: what it leaves there, and the fill byte behind it
-pub record Tried (c : Case) (written : Outcome ℕ) (want out : List ℕ) : Type 0 where
+pub record Tried (c : Case) (written : Outcome ℕ) (out : List ℕ) : Type 0 where
   pub fits : c.room ≤ length out
-  pub inside : (written, take c.room out) ≡ wanted_effect c want c.room
+  pub inside : (written, take c.room out) ≡ wanted_effect c c.room
   pub behind : AllFrom out c.room c.fill

@@ -5,11 +5,8 @@ ghost use Rattle.std.specs.Prelude.{◌≡◌, true, ◌↔◌, ◌≤◌, ◌<�
 ghost use Rattle.std.specs.Fn.{FnOnceReturnsAtMut};
 ghost use Rattle.payload_util.specs.Bytes.{byte_at, u16_at, u32_at, u16_bytes, u32_bytes};
 ghost use Rattle.payload_util.specs.Refusals.{number_of, Guard, Outcome};
-ghost use Rattle.payload_util.specs.Outcome.{outcome};
-ghost use Rattle.payload_util.specs.Guards.{room};
-ghost use Rattle.payload_util.specs.Writing.{room_last};
 ghost use Rattle.payload_util.specs.declared.Row.{Row};
-ghost use Rattle.vectors_case.specs.Case.{IsWanted, wanted_effect, Tried};
+ghost use Rattle.vectors_case.specs.Case.{IsWanted, wanted_answer, wanted_effect, Tried};
 ghost use Rattle.vectors_case.specs.Buffer.{AllFrom, around, putting};
 
 use payload_util::{Refusal, Row};
@@ -61,30 +58,133 @@ pub const LED_BYTES: usize = 14;
 pub const OUT_BYTES: usize = 4;
 
 #[derive(Clone, Copy, Debug, PartialEq, Eq)]
-pub struct Case {
+pub struct Case<'a> {
     pub class: u8,
     pub code: u8,
     pub argument: usize,
-    // the wanted answer: a pass, or a refusal
+    pub input: &'a [u8],
+    // the wanted answer, a pass or a refusal, and the wanted output
     pub wanted: Result<(), Refusal>,
+    pub want: &'a [u8],
     // how it is tried: the room that a writer is given, and the byte that fills the whole buffer before
     pub room: usize,
     pub fill: u8,
 }
 
-impl Case {
+impl<'a> Case<'a> {
     // Whether e is the wanted refusal.
     pub fn refuses(self, e: Refusal) -> bool
-        ensures { (result ≡ true) ↔ (Err e ≡ self.wanted) }
+        ensures { (result ≡ true) ↔ (Err e ≡ self.entry.wanted) }
     {
         self.guards(Err(e))
     }
 
     // Whether g is the wanted answer.
     pub fn guards(self, g: Result<(), Refusal>) -> bool
-        ensures { (result ≡ true) ↔ (g ≡ self.wanted) }
+        ensures { (result ≡ true) ↔ (g ≡ self.entry.wanted) }
     {
         g == self.wanted
+    }
+
+    // Fills the whole buffer with the case's byte. False if it is shorter than the case's room.
+    #[tactic(auto, unfolding(crate::specs::Buffer::putting))]
+    fn fill_up(self, out: &mut [u8]) -> bool
+        ensures fits { (result ≡ true) ↔ self.entry.room ≤ length out.old }
+        ensures filled { (result ≡ true) → out.new ≡ replicate (length out.old) self.entry.fill }
+        ensures len { length out.new ≡ length out.old }
+    {
+        let n = out.len();
+        self.room <= n && put(out, 0, n, self.fill)
+    }
+
+    // Fills the whole buffer up and lends its room to the call. None if the buffer is shorter than the room.
+    pub fn lend_room<R, F: FnOnce(&mut [u8]) -> R>(self, out: &mut [u8], call: F) -> Option<R>
+        requires callable { F.IsAlwaysCallable call }
+        ensures called { IfSome result (λ r.
+            FnOnceReturnsAtMut F.FnOnce call (replicate self.entry.room self.entry.fill) r (take self.entry.room out.new)) }
+        ensures behind { IfSome result (λ r. AllFrom out.new self.entry.room self.entry.fill) }
+        ensures len { length out.new ≡ length out.old }
+    {
+        if !self.fill_up(&mut *out) {
+            return None;
+        }
+        Some(call(&mut out[..self.room]))
+    }
+
+    // Whether a writer's answer and every byte of a buffer are the wanted ones, after the writer was given only its room. False if it was asked
+    // for nothing that can be written.
+    pub fn writes_wanted<F: FnOnce(&mut [u8]) -> Option<Result<usize, Refusal>>>(
+        self,
+        out: &mut [u8],
+        call: F,
+    ) -> bool
+        requires callable { F.IsAlwaysCallable call }
+        ensures called { (result ≡ true) → (written : Outcome ℕ) × Tried self.entry written out.new
+            × FnOnceReturnsAtMut F.FnOnce call (replicate self.entry.room self.entry.fill) (Some written) (take self.entry.room out.new) }
+        ensures len { length out.new ≡ length out.old }
+    {
+        match self.lend_room(&mut *out, call).flatten() {
+            Some(written) => self.wrote(written, out),
+            None => false,
+        }
+    }
+
+    // Whether the answer and every byte of a buffer are the wanted ones, after a writer was given only its room.
+    pub fn wrote(self, written: Result<usize, Refusal>, out: &[u8]) -> bool
+        ensures { (result ≡ true) ↔ Tried self.entry written out.now }
+    {
+        let room = self.room;
+        room <= out.len() && self.in_room(written, &out[..room]) && filled(out, room, self.fill)
+    }
+
+    // Whether the answer and every byte of the room are the wanted ones.
+    #[tactic(auto, using(crate::proofs::Writes::effect_answer, crate::proofs::Writes::effect_wrote))]
+    fn in_room(self, written: Result<usize, Refusal>, out: &[u8]) -> bool
+        ensures { (result ≡ true) ↔ ((written, out.now) ≡ wanted_effect self.entry (length out.now)) }
+    {
+        if !self.is_answer(written, out.len()) {
+            return false;
+        }
+        match written {
+            Ok(_) => self.holds(out, 0),
+            Err(_) => filled(out, 0, self.fill),
+        }
+    }
+
+    // Whether the answer is the wanted one of a writer that is given room for so many bytes.
+    fn is_answer(self, written: Result<usize, Refusal>, given: usize) -> bool
+        ensures { (result ≡ true) ↔ (written ≡ wanted_answer self.entry given) }
+    {
+        written == self.answer(given)
+    }
+
+    // The wanted answer of a writer that is given room for so many bytes.
+    #[tactic(auto, unfolding(payload_util::specs::Guards::room))]
+    fn answer(self, given: usize) -> Result<usize, Refusal>
+        ensures { result ≡ wanted_answer self.entry given }
+    {
+        let n = self.want.len();
+        self.wanted?;
+        if given < n {
+            return Err(Refusal::with_values(Row::BufferTooShort, self.code, n, given));
+        }
+        Ok(n)
+    }
+
+    // Whether a buffer has the wanted bytes from an index on, and the fill byte everywhere else.
+    #[tactic(auto, using(crate::proofs::Buffers::around_parts))]
+    pub fn holds(self, out: &[u8], at: usize) -> bool
+        ensures { (result ≡ true) ↔ (out.now ≡ around at self.entry.want.now (length out.now) self.entry.fill) }
+    {
+        let n = self.want.len();
+        if out.len() < n || out.len() - n < at {
+            return false;
+        }
+        let end = at + n;
+        if !same(&out[at..end], self.want) || !filled(&out[..at], 0, self.fill) {
+            return false;
+        }
+        filled(out, end, self.fill)
     }
 }
 
@@ -141,106 +241,6 @@ pub fn put(into: &mut [u8], from: usize, to: usize, b: u8) -> bool
         into[from..to].fill(b);
     }
     true
-}
-
-// Fills the whole buffer with the case's byte. False if it is shorter than the case's room.
-#[tactic(auto, unfolding(crate::specs::Buffer::putting))]
-fn fill_up(c: Case, out: &mut [u8]) -> bool
-    ensures fits { (result ≡ true) ↔ c.room ≤ length out.old }
-    ensures filled { (result ≡ true) → out.new ≡ replicate (length out.old) c.fill }
-    ensures len { length out.new ≡ length out.old }
-{
-    let n = out.len();
-    c.room <= n && put(out, 0, n, c.fill)
-}
-
-// Fills the whole buffer up and lends its room to the call. None if the buffer is shorter than the room.
-pub fn lend_room<R, F: FnOnce(&mut [u8]) -> R>(c: Case, out: &mut [u8], call: F) -> Option<R>
-    requires callable { F.IsAlwaysCallable call }
-    ensures called { IfSome result (λ r. FnOnceReturnsAtMut F.FnOnce call (replicate c.room c.fill) r (take c.room out.new)) }
-    ensures behind { IfSome result (λ r. AllFrom out.new c.room c.fill) }
-    ensures len { length out.new ≡ length out.old }
-{
-    if !fill_up(c, &mut *out) {
-        return None;
-    }
-    Some(call(&mut out[..c.room]))
-}
-
-// Whether a writer's answer and every byte of a buffer are the wanted ones, after the writer was given only its room. False if it was asked for
-// nothing that can be written.
-pub fn writes_wanted<F: FnOnce(&mut [u8]) -> Option<Result<usize, Refusal>>>(
-    c: Case,
-    want: &[u8],
-    out: &mut [u8],
-    call: F,
-) -> bool
-    requires callable { F.IsAlwaysCallable call }
-    ensures called { (result ≡ true) → (written : Outcome ℕ) × Tried c written want.now out.new
-        × FnOnceReturnsAtMut F.FnOnce call (replicate c.room c.fill) (Some written) (take c.room out.new) }
-    ensures len { length out.new ≡ length out.old }
-{
-    match lend_room(c, &mut *out, call).flatten() {
-        Some(written) => wrote(c, written, want, out),
-        None => false,
-    }
-}
-
-// Whether the answer and every byte of a buffer are the wanted ones, after a writer was given only its room.
-pub fn wrote(c: Case, written: Result<usize, Refusal>, want: &[u8], out: &[u8]) -> bool
-    ensures { (result ≡ true) ↔ Tried c written want.now out.now }
-{
-    let room = c.room;
-    room <= out.len() && in_room(c, written, want, &out[..room]) && filled(out, room, c.fill)
-}
-
-// Whether the answer and every byte of the room are the wanted ones.
-#[tactic(auto, using(crate::proofs::Writes::effect_answer, crate::proofs::Writes::effect_wrote))]
-fn in_room(c: Case, written: Result<usize, Refusal>, want: &[u8], out: &[u8]) -> bool
-    ensures { (result ≡ true) ↔ ((written, out.now) ≡ wanted_effect c want.now (length out.now)) }
-{
-    if !is_answer(c, written, want.len(), out.len()) {
-        return false;
-    }
-    match written {
-        Ok(_) => holds(out, 0, want, c.fill),
-        Err(_) => filled(out, 0, c.fill),
-    }
-}
-
-// Whether the answer is the wanted one of a writer of n bytes that is given room for so many.
-fn is_answer(c: Case, written: Result<usize, Refusal>, n: usize, given: usize) -> bool
-    ensures { (result ≡ true) ↔ (written ≡ outcome (room_last c.wanted (room c.code n given)) n) }
-{
-    written == answer(c, n, given)
-}
-
-// The wanted answer of a writer of n bytes that is given room for so many.
-#[tactic(auto, unfolding(payload_util::specs::Guards::room))]
-fn answer(c: Case, n: usize, given: usize) -> Result<usize, Refusal>
-    ensures { result ≡ outcome (room_last c.wanted (room c.code n given)) n }
-{
-    c.wanted?;
-    if given < n {
-        return Err(Refusal::with_values(Row::BufferTooShort, c.code, n, given));
-    }
-    Ok(n)
-}
-
-// Whether a buffer has the wanted bytes from an index on, and the fill byte everywhere else.
-#[tactic(auto, using(crate::proofs::Buffers::around_parts))]
-pub fn holds(out: &[u8], at: usize, want: &[u8], fill: u8) -> bool
-    ensures { (result ≡ true) ↔ (out.now ≡ around at want.now (length out.now) fill) }
-{
-    let n = want.len();
-    if out.len() < n || out.len() - n < at {
-        return false;
-    }
-    let end = at + n;
-    if !same(&out[at..end], want) || !filled(&out[..at], 0, fill) {
-        return false;
-    }
-    filled(out, end, fill)
 }
 
 // Whether the bytes are the same.

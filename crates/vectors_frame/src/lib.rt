@@ -4,7 +4,7 @@
 ghost use Rattle.std.specs.Prelude.{◌≡◌, length};
 
 use frame::Frame;
-use vectors_case::{Case, byte, u16_bytes, writes_wanted};
+use vectors_case::{Case, byte, u16_bytes};
 
 // The bytes before the payload in a frame, and of the fields in an output and in an input.
 const HEAD: usize = 6;
@@ -34,15 +34,16 @@ fn record(f: &[u8], code: u8) -> Frame {
 }
 
 // Whether payload_in gives what is between code and check, for a record with either check, whatever the frame.
-fn is_inside(c: Case, f: &[u8]) -> bool {
+fn is_inside(c: Case) -> bool {
+    let f = c.input;
     let by_sum = record(&[0, 0, 0, 0], c.code);
     let by_crc = record(&[0, 0, 0, 1], c.code);
     by_sum.payload_in(f) == between(f, HEAD, 1) && by_crc.payload_in(f) == between(f, HEAD, 2)
 }
 
 // Whether the reader gives the wanted fields, or the wanted refusal.
-fn is_read(c: Case, f: &[u8], want: &[u8]) -> bool {
-    match Frame::decode(f) {
+fn is_read(c: Case) -> bool {
+    match Frame::decode(c.input) {
         Ok(r) => {
             let fields = [
                 r.address,
@@ -51,35 +52,38 @@ fn is_read(c: Case, f: &[u8], want: &[u8]) -> bool {
                 u8::from(r.crc),
                 r.code,
             ];
-            c.wanted.is_ok() && fields.as_slice() == part(want, 0, FIELDS)
+            c.wanted.is_ok() && fields.as_slice() == part(c.want, 0, FIELDS)
         }
-        Err(e) => want.is_empty() && c.refuses(e),
+        Err(e) => c.want.is_empty() && c.refuses(e),
     }
 }
 
 // Whether a frame is written as wanted.
-fn is_written(c: Case, r: Frame, payload: &[u8], want: &[u8], out: &mut [u8]) -> bool
+fn is_written(c: Case, r: Frame, payload: &[u8], out: &mut [u8]) -> bool
     ensures { length out.new ≡ length out.old }
 {
-    writes_wanted(c, want, out, |room| Some(r.encode(payload, room)))
+    c.writes_wanted(out, |room| Some(r.encode(payload, room)))
 }
 
 // Class 15. The wanted output has the fields and then the payload; what was read is written again, and has to be the frame.
-fn read(c: Case, f: &[u8], want: &[u8], out: &mut [u8]) -> bool
+fn read(c: Case, out: &mut [u8]) -> bool
     ensures { length out.new ≡ length out.old }
 {
+    let f = c.input;
     let is_right = c.guards(Frame::check(f))
-        && is_read(c, f, want)
-        && is_inside(c, f)
-        && Frame::payload(f) == between(want, FIELDS, 0);
+        && is_read(c)
+        && is_inside(c)
+        && Frame::payload(f) == between(c.want, FIELDS, 0);
     if c.wanted.is_err() {
         return is_right;
     }
-    is_right && is_written(c, record(want, c.code), Frame::payload(f), f, out)
+    let again = Case { want: f, ..c };
+    is_right && is_written(again, record(c.want, c.code), Frame::payload(f), out)
 }
 
 // Class 17. The bytes as a whole and in two parts have the wanted CRC and sum; the argument is the start, its low byte that of the sum.
-fn checks(c: Case, input: &[u8], want: &[u8]) -> bool {
+fn checks(c: Case) -> bool {
+    let input = c.input;
     let start = (c.argument % 65536) as u16;
     let first = (c.argument % 256) as u8;
     let one = part(input, 0, input.len() / 2);
@@ -87,25 +91,19 @@ fn checks(c: Case, input: &[u8], want: &[u8]) -> bool {
     let whole = crc::crc(start, input);
     let sum = crc::sum(first, input);
     let bytes = u16_bytes(whole);
-    [bytes[0], bytes[1], sum, crc::twos_complement(sum)].as_slice() == want
+    [bytes[0], bytes[1], sum, crc::twos_complement(sum)].as_slice() == c.want
         && crc::crc(crc::crc(start, one), other) == whole
         && crc::sum(crc::sum(first, one), other) == sum
 }
 
 // The input of class 16 has the fields without the code, and then the payload.
-pub fn run(c: Case, input: &[u8], want: &[u8], out: &mut [u8]) -> bool
+pub fn run(c: Case, out: &mut [u8]) -> bool
     ensures { length out.new ≡ length out.old }
 {
     let class = c.class;
     match class {
-        15 => read(c, input, want, out),
-        16 => is_written(
-            c,
-            record(input, c.code),
-            between(input, GIVEN, 0),
-            want,
-            out,
-        ),
-        _ => checks(c, input, want),
+        15 => read(c, out),
+        16 => is_written(c, record(c.input, c.code), between(c.input, GIVEN, 0), out),
+        _ => checks(c),
     }
 }

@@ -15,16 +15,10 @@ use vectors_case::Case;
 
 // Whether reading gives the wanted fixed fields, with which the wanted bytes begin, and the wanted tail, which is there from an index on; or
 // the wanted refusal, and no tail.
-fn reads<const N: usize>(
-    c: Case,
-    fixed: Result<[u8; N], Refusal>,
-    tail: &[u8],
-    at: usize,
-    want: &[u8],
-) -> bool {
+fn reads<const N: usize>(c: Case, fixed: Result<[u8; N], Refusal>, tail: &[u8], at: usize) -> bool {
     match fixed {
         Ok(fields) => {
-            c.wanted.is_ok() && want.starts_with(&fields) && want.get(at..) == Some(tail)
+            c.wanted.is_ok() && c.want.starts_with(&fields) && c.want.get(at..) == Some(tail)
         }
         Err(e) => c.refuses(e) && tail.is_empty(),
     }

@@ -9,18 +9,23 @@ use payload_util::{Refusal, Row};
 use vectors_case::{Case, LED, LED_BYTES, OUT_BYTES, u16_bytes};
 
 // Whether the list has its wanted records, one for each of its whole records, and row 16 after the last.
-pub(crate) fn records(c: Case, size: usize, p: &[u8], want: &[u8]) -> bool
+pub(crate) fn records(c: Case, size: usize) -> bool
     requires { 0 < size }
 {
-    let n = p.len() / size;
-    for (k, bytes) in want.chunks_exact(size).enumerate() {
-        if !record(Case { argument: k, ..c }, p, bytes) {
+    let n = c.input.len() / size;
+    for (k, bytes) in c.want.chunks_exact(size).enumerate() {
+        let part = Case {
+            argument: k,
+            want: bytes,
+            ..c
+        };
+        if !record(part) {
             return false;
         }
     }
-    want.len() % size == 0
-        && (c.wanted.is_err() || want.len() / size == n)
-        && record(past(c, n), p, want)
+    c.want.len() % size == 0
+        && (c.wanted.is_err() || c.want.len() / size == n)
+        && record(past(c, n))
 }
 
 // Asks for record n of n: row 16 if reading accepts.
@@ -35,26 +40,26 @@ fn past(c: Case, n: usize) -> Case {
 
 // The count is that of the whole records, also if reading refuses the payload.
 // Two arms: the borrow check covers no function over ListRecord that is passed led_bytes or output_bytes, since its bound names an array's length.
-pub fn record(c: Case, p: &[u8], want: &[u8]) -> bool {
+pub fn record(c: Case) -> bool {
     match c.code {
         LED => {
-            let fixed = LedRecord::decode(p, c.argument).map(led_bytes);
-            LedRecord::count(p) == p.len() / LED_BYTES
-                && crate::reads(c, fixed, &[], LED_BYTES, want)
+            let fixed = LedRecord::decode(c.input, c.argument).map(led_bytes);
+            LedRecord::count(c.input) == c.input.len() / LED_BYTES
+                && crate::reads(c, fixed, &[], LED_BYTES)
         }
         _ => {
-            OutputRecord::count(p) == p.len() / OUT_BYTES
-                && output(c, OutputRecord::decode(p, c.argument), want)
+            OutputRecord::count(c.input) == c.input.len() / OUT_BYTES
+                && output(c, OutputRecord::decode(c.input, c.argument))
         }
     }
 }
 
-pub fn record_at(c: Case, p: &[u8], want: &[u8]) -> bool {
-    output(c, OutputRecord::decode_at(p, c.argument), want)
+pub fn record_at(c: Case) -> bool {
+    output(c, OutputRecord::decode_at(c.input, c.argument))
 }
 
-fn output(c: Case, read: Result<OutputRecord, Refusal>, want: &[u8]) -> bool {
-    crate::reads(c, read.map(output_bytes), &[], OUT_BYTES, want)
+fn output(c: Case, read: Result<OutputRecord, Refusal>) -> bool {
+    crate::reads(c, read.map(output_bytes), &[], OUT_BYTES)
 }
 
 // By hand, since the records' writers are made of their to_bytes.

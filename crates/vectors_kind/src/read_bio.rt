@@ -17,21 +17,21 @@ fn head(h: BioHead) -> [u8; 4] {
     ]
 }
 
-pub(crate) fn bio_read(c: Case, p: &[u8], want: &[u8]) -> bool {
-    crate::reads(c, BioRead::decode(p).map(|r| head(r.head)), &[], 4, want)
+pub(crate) fn bio_read(c: Case) -> bool {
+    crate::reads(c, BioRead::decode(c.input).map(|r| head(r.head)), &[], 4)
 }
 
-pub(crate) fn bio_match(c: Case, p: &[u8], want: &[u8]) -> bool {
-    let fixed = BioMatch::decode(p).map(|r| head(r.head));
-    crate::reads(c, fixed, BioMatch::template(p), TEMPLATE_AT, want)
+pub(crate) fn bio_match(c: Case) -> bool {
+    let fixed = BioMatch::decode(c.input).map(|r| head(r.head));
+    crate::reads(c, fixed, BioMatch::template(c.input), TEMPLATE_AT)
 }
 
-pub(crate) fn bio_read_r(c: Case, p: &[u8], want: &[u8]) -> bool {
-    let fixed = BioReadR::decode(p).map(|r| head(r.head));
-    crate::reads(c, fixed, BioReadR::data(p), TEMPLATE_AT, want)
+pub(crate) fn bio_read_r(c: Case) -> bool {
+    let fixed = BioReadR::decode(c.input).map(|r| head(r.head));
+    crate::reads(c, fixed, BioReadR::data(c.input), TEMPLATE_AT)
 }
 
-pub(crate) fn bio_match_r(c: Case, p: &[u8], want: &[u8]) -> bool {
-    let fixed = BioMatchR::decode(p).map(|r| [r.reader, r.result, r.score]);
-    crate::reads(c, fixed, &[], 3, want)
+pub(crate) fn bio_match_r(c: Case) -> bool {
+    let fixed = BioMatchR::decode(c.input).map(|r| [r.reader, r.result, r.score]);
+    crate::reads(c, fixed, &[], 3)
 }

@@ -11,9 +11,9 @@ const TEXT_AT: usize = 6;
 
 const FRAGMENT_AT: usize = 11;
 
-pub(crate) fn text(c: Case, p: &[u8], want: &[u8]) -> bool {
-    let fixed = Text::decode(p).map(text_fields);
-    crate::reads(c, fixed, Text::text(p), TEXT_AT, want)
+pub(crate) fn text(c: Case) -> bool {
+    let fixed = Text::decode(c.input).map(text_fields);
+    crate::reads(c, fixed, Text::text(c.input), TEXT_AT)
 }
 
 fn text_fields(r: Text) -> [u8; 5] {
@@ -26,9 +26,9 @@ fn text_fields(r: Text) -> [u8; 5] {
     ]
 }
 
-pub(crate) fn file_transfer(c: Case, p: &[u8], want: &[u8]) -> bool {
-    let fixed = FileTransfer::decode(p).map(file_fields);
-    crate::reads(c, fixed, FileTransfer::fragment(p), FRAGMENT_AT, want)
+pub(crate) fn file_transfer(c: Case) -> bool {
+    let fixed = FileTransfer::decode(c.input).map(file_fields);
+    crate::reads(c, fixed, FileTransfer::fragment(c.input), FRAGMENT_AT)
 }
 
 fn file_fields(r: FileTransfer) -> [u8; 9] {
@@ -47,7 +47,7 @@ fn file_fields(r: FileTransfer) -> [u8; 9] {
     ]
 }
 
-pub(crate) fn mfg(c: Case, p: &[u8], want: &[u8]) -> bool {
-    let fixed = Mfg::decode(p).map(|r| [r.oui_0, r.oui_1, r.oui_2]);
-    crate::reads(c, fixed, Mfg::payload(p), 3, want)
+pub(crate) fn mfg(c: Case) -> bool {
+    let fixed = Mfg::decode(c.input).map(|r| [r.oui_0, r.oui_1, r.oui_2]);
+    crate::reads(c, fixed, Mfg::payload(c.input), 3)
 }

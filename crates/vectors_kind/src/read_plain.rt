@@ -8,16 +8,16 @@ use plain::pdid::PdId;
 use vectors_case::{Case, u16_bytes, u32_bytes};
 
 // COM and COMSET.
-pub(crate) fn address_and_baud<const CODE: u8>(c: Case, p: &[u8], want: &[u8]) -> bool {
-    let fixed = AddressAndBaud::<CODE>::decode(p).map(|r| {
+pub(crate) fn address_and_baud<const CODE: u8>(c: Case) -> bool {
+    let fixed = AddressAndBaud::<CODE>::decode(c.input).map(|r| {
         let rate = u32_bytes(r.baud);
         [r.address, rate[0], rate[1], rate[2], rate[3]]
     });
-    crate::reads(c, fixed, &[], 5, want)
+    crate::reads(c, fixed, &[], 5)
 }
 
-pub(crate) fn pd_id(c: Case, p: &[u8], want: &[u8]) -> bool {
-    crate::reads(c, PdId::decode(p).map(identity), &[], 12, want)
+pub(crate) fn pd_id(c: Case) -> bool {
+    crate::reads(c, PdId::decode(c.input).map(identity), &[], 12)
 }
 
 fn identity(r: PdId) -> [u8; 12] {
@@ -38,17 +38,17 @@ fn identity(r: PdId) -> [u8; 12] {
     ]
 }
 
-pub(crate) fn l_stat_r(c: Case, p: &[u8], want: &[u8]) -> bool {
-    let fixed = LStatR::decode(p).map(|r| [r.tamper, r.power]);
-    crate::reads(c, fixed, &[], 2, want)
+pub(crate) fn l_stat_r(c: Case) -> bool {
+    let fixed = LStatR::decode(c.input).map(|r| [r.tamper, r.power]);
+    crate::reads(c, fixed, &[], 2)
 }
 
-pub(crate) fn acu_rx_size(c: Case, p: &[u8], want: &[u8]) -> bool {
-    let fixed = AcuRxSize::decode(p).map(|r| u16_bytes(r.max_size));
-    crate::reads(c, fixed, &[], 2, want)
+pub(crate) fn acu_rx_size(c: Case) -> bool {
+    let fixed = AcuRxSize::decode(c.input).map(|r| u16_bytes(r.max_size));
+    crate::reads(c, fixed, &[], 2)
 }
 
-pub(crate) fn keep_active(c: Case, p: &[u8], want: &[u8]) -> bool {
-    let fixed = KeepActive::decode(p).map(|r| u16_bytes(r.duration_ms));
-    crate::reads(c, fixed, &[], 2, want)
+pub(crate) fn keep_active(c: Case) -> bool {
+    let fixed = KeepActive::decode(c.input).map(|r| u16_bytes(r.duration_ms));
+    crate::reads(c, fixed, &[], 2)
 }

@@ -7,9 +7,9 @@ use raw_card::{Fmt, Raw};
 use vectors_case::{Case, u16_bytes};
 use xrd::Xrd;
 
-pub(crate) fn raw(c: Case, p: &[u8], want: &[u8]) -> bool {
-    let fixed = Raw::decode(p).map(raw_fields);
-    crate::reads(c, fixed, Raw::bits(p), 4, want)
+pub(crate) fn raw(c: Case) -> bool {
+    let fixed = Raw::decode(c.input).map(raw_fields);
+    crate::reads(c, fixed, Raw::bits(c.input), 4)
 }
 
 fn raw_fields(r: Raw) -> [u8; 4] {
@@ -17,22 +17,22 @@ fn raw_fields(r: Raw) -> [u8; 4] {
     [r.reader, r.format_code, count[0], count[1]]
 }
 
-pub(crate) fn fmt(c: Case, p: &[u8], want: &[u8]) -> bool {
-    let fixed = Fmt::decode(p).map(|r| [r.reader, r.direction, r.char_count]);
-    crate::reads(c, fixed, Fmt::chars(p), 3, want)
+pub(crate) fn fmt(c: Case) -> bool {
+    let fixed = Fmt::decode(c.input).map(|r| [r.reader, r.direction, r.char_count]);
+    crate::reads(c, fixed, Fmt::chars(c.input), 3)
 }
 
-pub(crate) fn keypad(c: Case, p: &[u8], want: &[u8]) -> bool {
-    let fixed = Keypad::decode(p).map(|r| [r.reader, r.digit_count]);
-    crate::reads(c, fixed, Keypad::digits(p), 2, want)
+pub(crate) fn keypad(c: Case) -> bool {
+    let fixed = Keypad::decode(c.input).map(|r| [r.reader, r.digit_count]);
+    crate::reads(c, fixed, Keypad::digits(c.input), 2)
 }
 
-pub(crate) fn nak(c: Case, p: &[u8], want: &[u8]) -> bool {
-    let fixed = Nak::decode(p).map(|r| [names::nak(r.error)]);
-    crate::reads(c, fixed, Nak::completion_codes(p), 1, want)
+pub(crate) fn nak(c: Case) -> bool {
+    let fixed = Nak::decode(c.input).map(|r| [names::nak(r.error)]);
+    crate::reads(c, fixed, Nak::completion_codes(c.input), 1)
 }
 
-pub(crate) fn xrd(c: Case, p: &[u8], want: &[u8]) -> bool {
-    let fixed = Xrd::decode(p).map(|r| [r.mode]);
-    crate::reads(c, fixed, Xrd::payload(p), 1, want)
+pub(crate) fn xrd(c: Case) -> bool {
+    let fixed = Xrd::decode(c.input).map(|r| [r.mode]);
+    crate::reads(c, fixed, Xrd::payload(c.input), 1)
 }

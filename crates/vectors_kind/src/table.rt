@@ -9,12 +9,12 @@ use payload_util::Refusal;
 use text::TextCommand;
 use vectors_case::Case;
 
-pub fn run(c: Case, input: &[u8], want: &[u8]) -> bool {
-    let [b] = input else {
+pub fn run(c: Case) -> bool {
+    let [b] = c.input else {
         return false;
     };
     match look_up(c.argument, *b) {
-        Some(Ok(bytes)) => c.wanted.is_ok() && want.len() == 1 && bytes == [want[0]; 2],
+        Some(Ok(bytes)) => c.wanted.is_ok() && c.want.len() == 1 && bytes == [c.want[0]; 2],
         Some(Err(e)) => c.refuses(e),
         None => false,
     }

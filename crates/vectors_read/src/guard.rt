@@ -2,15 +2,15 @@
 use payload_util::Refusal;
 use vectors_case::Case;
 
-pub fn run(c: Case, input: &[u8]) -> bool {
-    c.guards(answer(c.class, input, c.argument, c.code))
+pub fn run(c: Case) -> bool {
+    c.guards(answer(c))
 }
 
-fn answer(class: u8, input: &[u8], n: usize, code: u8) -> Result<(), Refusal> {
-    match class {
-        1 => payload_util::require_exact_len(input, n, code),
-        2 => payload_util::require_at_least(input, n, code),
-        3 => payload_util::require_positive_multiple_of(input, n, code),
-        _ => payload_util::require_multiple_of(input, n, code),
+fn answer(c: Case) -> Result<(), Refusal> {
+    match c.class {
+        1 => payload_util::require_exact_len(c.input, c.argument, c.code),
+        2 => payload_util::require_at_least(c.input, c.argument, c.code),
+        3 => payload_util::require_positive_multiple_of(c.input, c.argument, c.code),
+        _ => payload_util::require_multiple_of(c.input, c.argument, c.code),
     }
 }

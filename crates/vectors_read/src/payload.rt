@@ -5,7 +5,7 @@ use osdp::{Kind, Side};
 use payload_util::{Refusal, Row};
 use vectors_case::{
     ACURXSIZE, BIOMATCH, BIOMATCHR, BIOREAD, BIOREADR, COM, COMSET, Case, FILETRANSFER, FMT,
-    KEEPACTIVE, KEYPAD, LED, LSTATR, MFG, NAK, OUT, PDID, RAW, TEXT, XRD, writes_wanted,
+    KEEPACTIVE, KEYPAD, LED, LSTATR, MFG, NAK, OUT, PDID, RAW, TEXT, XRD,
 };
 use vectors_kind::reader;
 
@@ -41,20 +41,20 @@ impl Call {
     }
 }
 
-pub fn run(c: Case, p: &[u8], want: &[u8], out: &mut [u8]) -> bool
+pub fn run(c: Case, out: &mut [u8]) -> bool
     ensures { length out.new ≡ length out.old }
 {
-    by_code(c, p, want, &mut *out) && of_kind(c, p, want, out)
+    by_code(c, &mut *out) && of_kind(c, out)
 }
 
-fn by_code(c: Case, p: &[u8], want: &[u8], out: &mut [u8]) -> bool {
+fn by_code(c: Case, out: &mut [u8]) -> bool {
     if c.argument == OF_KIND {
         return true;
     }
     let side = side_of(c);
     finds(c, osdp::kind_of(side, c.code))
-        && c.guards(osdp::strict(side, c.code, p))
-        && answers(reading(c), Call::ByCode(side, c.code), p, want, out)
+        && c.guards(osdp::strict(side, c.code, c.input))
+        && answers(reading(c), Call::ByCode(side, c.code), out)
 }
 
 // Whether what a code byte was found to be is what the case says.
@@ -102,12 +102,12 @@ fn code_of(kind: Kind) -> u8 {
     }
 }
 
-fn of_kind(c: Case, p: &[u8], want: &[u8], out: &mut [u8]) -> bool {
+fn of_kind(c: Case, out: &mut [u8]) -> bool {
     if c.argument == BY_CODE {
         return true;
     }
     let read = reading(c);
-    reads(read, p, want) && answers(read, Call::OfKind(c.code), p, want, out)
+    reads(read) && answers(read, Call::OfKind(c.code), out)
 }
 
 fn side_of(c: Case) -> Side {
@@ -119,11 +119,11 @@ fn side_of(c: Case) -> Side {
 }
 
 // Whether the kind's reader gives the wanted fields and the wanted tail. False if no kind has the code byte.
-fn reads(c: Case, p: &[u8], want: &[u8]) -> bool {
+fn reads(c: Case) -> bool {
     if c.class == COMMANDS {
-        reader::command(c, p, want)
+        reader::command(c)
     } else {
-        reader::reply(c, p, want)
+        reader::reply(c)
     }
 }
 
@@ -138,7 +138,7 @@ fn reading(c: Case) -> Case {
     }
 }
 
-fn answers(c: Case, call: Call, p: &[u8], want: &[u8], out: &mut [u8]) -> bool {
-    call.check(p).is_some_and(|g| c.guards(g))
-        && writes_wanted(c, want, out, |room| call.normalise(p, room))
+fn answers(c: Case, call: Call, out: &mut [u8]) -> bool {
+    call.check(c.input).is_some_and(|g| c.guards(g))
+        && c.writes_wanted(out, |room| call.normalise(c.input, room))
 }

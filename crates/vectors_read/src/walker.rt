@@ -7,22 +7,25 @@ use vectors_kind::list;
 const MORE: usize = 3;
 
 // A walker that is started is at place 0, and holds the whole payload.
-pub fn start(c: Case, p: &[u8], want: &[u8]) -> bool {
-    match LedWalker::start(p) {
+pub fn start(c: Case) -> bool {
+    match LedWalker::start(c.input) {
         Ok(walker) => {
-            c.wanted.is_ok() && walker.payload == p && walker.offset == 0 && walks(walker, want)
+            c.wanted.is_ok()
+                && walker.payload == c.input
+                && walker.offset == 0
+                && walks(walker, c.want)
         }
-        Err(e) => c.refuses(e) && want.is_empty(),
+        Err(e) => c.refuses(e) && c.want.is_empty(),
     }
 }
 
 // A walker made at a place.
-pub fn run(c: Case, p: &[u8], want: &[u8]) -> bool {
+pub fn run(c: Case) -> bool {
     let walker = LedWalker {
-        payload: p,
+        payload: c.input,
         offset: c.argument,
     };
-    c.wanted.is_ok() && walks(walker, want)
+    c.wanted.is_ok() && walks(walker, c.want)
 }
 
 // Whether a walker hands out the wanted records and then none, and is after each step at the right offset: past its record, or if there is

@@ -4,28 +4,27 @@ ghost use Rattle.std.specs.Prelude.{◌≡◌, length};
 use crate::record;
 use lists::ListRecord;
 use payload_util::Refusal;
-use vectors_case::{Case, LED, filled, holds, lend_room};
+use vectors_case::{Case, LED, filled};
 
-pub fn run(c: Case, input: &[u8], want: &[u8], out: &mut [u8]) -> bool
+pub fn run(c: Case, out: &mut [u8]) -> bool
     ensures { length out.new ≡ length out.old }
 {
-    lend_room(c, &mut *out, |room| encode_at(c, input, room)).is_some_and(|written| wrote_at(
-        c, written, want, out,
-    ))
+    c.lend_room(&mut *out, |room| encode_at(c, room))
+        .is_some_and(|written| wrote_at(c, written, out))
 }
 
 // Two arms, since the record's type goes by the code byte; each is one call.
-fn encode_at(c: Case, f: &[u8], out: &mut [u8]) -> Result<usize, Refusal> {
+fn encode_at(c: Case, out: &mut [u8]) -> Result<usize, Refusal> {
     match c.code {
-        LED => record::led(f).encode_at(out, c.argument),
-        _ => record::output(f).encode_at(out, c.argument),
+        LED => record::led(c.input).encode_at(out, c.argument),
+        _ => record::output(c.input).encode_at(out, c.argument),
     }
 }
 
 // Every byte of the buffer is looked at, also those behind the room.
-fn wrote_at(c: Case, written: Result<usize, Refusal>, want: &[u8], out: &[u8]) -> bool {
+fn wrote_at(c: Case, written: Result<usize, Refusal>, out: &[u8]) -> bool {
     match written {
-        Ok(n) => c.wanted.is_ok() && n == want.len() && holds(out, c.argument, want, c.fill),
+        Ok(n) => c.wanted.is_ok() && n == c.want.len() && c.holds(out, c.argument),
         Err(e) => c.refuses(e) && filled(out, 0, c.fill),
     }
 }

@@ -6,26 +6,26 @@ use payload_util::Refusal;
 use raw_card::Raw;
 use vectors_case::{
     ACURXSIZE, BIOMATCH, BIOMATCHR, BIOREAD, BIOREADR, COM, COMSET, Case, FILETRANSFER, FMT,
-    KEEPACTIVE, KEYPAD, LED, LSTATR, MFG, NAK, OUT, PDID, RAW, TEXT, XRD, writes_wanted,
+    KEEPACTIVE, KEYPAD, LED, LSTATR, MFG, NAK, OUT, PDID, RAW, TEXT, XRD,
 };
 
 const COMMANDS: u8 = 7;
 
 const BITS: u8 = 9;
 
-pub fn run(c: Case, input: &[u8], want: &[u8], out: &mut [u8]) -> bool
+pub fn run(c: Case, out: &mut [u8]) -> bool
     ensures { length out.new ≡ length out.old }
 {
-    writes_wanted(c, want, out, |room| write(c, input, room))
+    c.writes_wanted(out, |room| write(c, room))
 }
 
 // The record's fixed fields are before an index, and its tail is from there on. None if the case asks for nothing that can be written.
-fn write(c: Case, input: &[u8], out: &mut [u8]) -> Option<Result<usize, Refusal>> {
+fn write(c: Case, out: &mut [u8]) -> Option<Result<usize, Refusal>> {
     let at = c.argument;
     if c.class == BITS {
-        return bits(at, input, out);
+        return bits(at, c.input, out);
     }
-    let (fixed, tail) = input.split_at_checked(at)?;
+    let (fixed, tail) = c.input.split_at_checked(at)?;
     match c.class {
         COMMANDS => command(c.code, fixed, tail, out),
         _ => reply(c.code, fixed, tail, out),

@@ -1,14 +1,13 @@
 -- The room is the first bytes of the buffer that was filled up.
-use Rattle.std.proofs.Common.{rules, ◌≡◌, ◌≤◌, length, replicate, arith}
-use mathlib.Core.Path.{sym}
+use Rattle.std.proofs.Common.{rules, ◌≡◌, ◌≤◌, length, replicate}
 use Rattle.vectors_case.proofs.Writes.{lent_before, lent_after, lent_behind}
-use Rattle.vectors_case.proofs.lend_room.Goals as goal
+use Rattle.vectors_case.proofs.Case.lend_room.Goals as goal
 
 pub returns-clause-called : goal.returns-clause-called
 returns-clause-called g c =
     let s = c.fill_up.new.out in
     let new = c.call.new.arg2 in
-    let a = c.args.c in
+    let a = c.args.self in
     let fits : a.room ≤ length s = search rules in
     let all : s ≡ replicate (length s) a.fill = search rules in
     let same : length new ≡ a.room = search rules in
@@ -18,7 +17,7 @@ pub returns-clause-behind : goal.returns-clause-behind
 returns-clause-behind g c =
     let s = c.fill_up.new.out in
     let new = c.call.new.arg2 in
-    let a = c.args.c in
+    let a = c.args.self in
     let fits : a.room ≤ length s = search rules in
     let all : s ≡ replicate (length s) a.fill = search rules in
     let same : length new ≡ a.room = search rules in
