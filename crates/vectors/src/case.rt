@@ -1,8 +1,12 @@
 // Runs one case on the library.
 use crate::stream::{Head, PLACE};
+use osdp::Side;
+use payload_util::{
+    require_at_least, require_exact_len, require_multiple_of, require_positive_multiple_of,
+};
 use vectors_case::Case;
 use vectors_kind::{list, table};
-use vectors_read::{guard, payload, walker};
+use vectors_read::{payload, walker};
 use vectors_write::{place, writer};
 
 // The highest class of a case.
@@ -22,9 +26,8 @@ pub fn run(h: Head, input: &[u8], want: &[u8], out: &mut [u8]) -> bool {
         (n.saturating_sub(1), 0xA5),
         (0, 0xA5),
     ];
-    for (room, fill) in tries {
+    tries.iter().all(|&(room, fill)| {
         let c = Case {
-            class: h.class,
             code: h.code,
             argument: h.argument,
             input,
@@ -33,25 +36,30 @@ pub fn run(h: Head, input: &[u8], want: &[u8], out: &mut [u8]) -> bool {
             room: h.room.unwrap_or(room),
             fill,
         };
-        if !once(c, &mut *out) {
-            return false;
-        }
-    }
-    true
+        once(h.class, c, &mut *out)
+    })
 }
 
-fn once(c: Case, out: &mut [u8]) -> bool {
-    match c.class {
+fn once(class: u8, c: Case, out: &mut [u8]) -> bool {
+    match class {
         0 => table::run(c),
-        1..=4 => guard::run(c),
-        5..=6 => payload::run(c, out),
-        7..=9 => writer::run(c, out),
+        1 => c.guards(require_exact_len(c.input, c.argument, c.code)),
+        2 => c.guards(require_at_least(c.input, c.argument, c.code)),
+        3 => c.guards(require_positive_multiple_of(c.input, c.argument, c.code)),
+        4 => c.guards(require_multiple_of(c.input, c.argument, c.code)),
+        5 => payload::run(Side::Command, c, out),
+        6 => payload::run(Side::Reply, c, out),
+        7 => writer::command(c, out),
+        8 => writer::reply(c, out),
+        9 => writer::bits(c, out),
         10 => list::record(c),
         11 => walker::start(c),
         12 => walker::run(c),
         13 => list::record_at(c),
         PLACE => place::run(c, out),
-        15..=17 => vectors_frame::run(c, out),
+        15 => vectors_frame::read(c, out),
+        16 => vectors_frame::write(c, out),
+        17 => vectors_frame::checks(c),
         _ => false,
     }
 }

@@ -59,7 +59,6 @@ pub const OUT_BYTES: usize = 4;
 
 #[derive(Clone, Copy, Debug, PartialEq, Eq)]
 pub struct Case<'a> {
-    pub class: u8,
     pub code: u8,
     pub argument: usize,
     pub input: &'a [u8],
@@ -91,7 +90,6 @@ impl<'a> Case<'a> {
     fn fill_up(self, out: &mut [u8]) -> bool
         ensures fits { (result ≡ true) ↔ self.entry.room ≤ length out.old }
         ensures filled { (result ≡ true) → out.new ≡ replicate (length out.old) self.entry.fill }
-        ensures len { length out.new ≡ length out.old }
     {
         let n = out.len();
         self.room <= n && put(out, 0, n, self.fill)
@@ -103,7 +101,6 @@ impl<'a> Case<'a> {
         ensures called { IfSome result (λ r.
             FnOnceReturnsAtMut F.FnOnce call (replicate self.entry.room self.entry.fill) r (take self.entry.room out.new)) }
         ensures behind { IfSome result (λ r. AllFrom out.new self.entry.room self.entry.fill) }
-        ensures len { length out.new ≡ length out.old }
     {
         if !self.fill_up(&mut *out) {
             return None;
@@ -121,7 +118,6 @@ impl<'a> Case<'a> {
         requires callable { F.IsAlwaysCallable call }
         ensures called { (result ≡ true) → (written : Outcome ℕ) × Tried self.entry written out.new
             × FnOnceReturnsAtMut F.FnOnce call (replicate self.entry.room self.entry.fill) (Some written) (take self.entry.room out.new) }
-        ensures len { length out.new ≡ length out.old }
     {
         match self.lend_room(&mut *out, call).flatten() {
             Some(written) => self.wrote(written, out),

@@ -1,8 +1,6 @@
 // Classes 15, 16 and 17: frames that are read, frames that are written, and the two checks of bytes.
 #![tactic(auto)]
 
-ghost use Rattle.std.specs.Prelude.{◌≡◌, length};
-
 use frame::Frame;
 use vectors_case::{Case, byte, u16_bytes};
 
@@ -59,16 +57,12 @@ fn is_read(c: Case) -> bool {
 }
 
 // Whether a frame is written as wanted.
-fn is_written(c: Case, r: Frame, payload: &[u8], out: &mut [u8]) -> bool
-    ensures { length out.new ≡ length out.old }
-{
+fn is_written(c: Case, r: Frame, payload: &[u8], out: &mut [u8]) -> bool {
     c.writes_wanted(out, |room| Some(r.encode(payload, room)))
 }
 
 // Class 15. The wanted output has the fields and then the payload; what was read is written again, and has to be the frame.
-fn read(c: Case, out: &mut [u8]) -> bool
-    ensures { length out.new ≡ length out.old }
-{
+pub fn read(c: Case, out: &mut [u8]) -> bool {
     let f = c.input;
     let is_right = c.guards(Frame::check(f))
         && is_read(c)
@@ -81,8 +75,13 @@ fn read(c: Case, out: &mut [u8]) -> bool
     is_right && is_written(again, record(c.want, c.code), Frame::payload(f), out)
 }
 
+// Class 16. The input has the fields without the code, and then the payload.
+pub fn write(c: Case, out: &mut [u8]) -> bool {
+    is_written(c, record(c.input, c.code), between(c.input, GIVEN, 0), out)
+}
+
 // Class 17. The bytes as a whole and in two parts have the wanted CRC and sum; the argument is the start, its low byte that of the sum.
-fn checks(c: Case) -> bool {
+pub fn checks(c: Case) -> bool {
     let input = c.input;
     let start = (c.argument % 65536) as u16;
     let first = (c.argument % 256) as u8;
@@ -94,16 +93,4 @@ fn checks(c: Case) -> bool {
     [bytes[0], bytes[1], sum, crc::twos_complement(sum)].as_slice() == c.want
         && crc::crc(crc::crc(start, one), other) == whole
         && crc::sum(crc::sum(first, one), other) == sum
-}
-
-// The input of class 16 has the fields without the code, and then the payload.
-pub fn run(c: Case, out: &mut [u8]) -> bool
-    ensures { length out.new ≡ length out.old }
-{
-    let class = c.class;
-    match class {
-        15 => read(c, out),
-        16 => is_written(c, record(c.input, c.code), between(c.input, GIVEN, 0), out),
-        _ => checks(c),
-    }
 }

@@ -13,18 +13,10 @@ pub(crate) fn records(c: Case, size: usize) -> bool
     requires { 0 < size }
 {
     let n = c.input.len() / size;
-    for (k, bytes) in c.want.chunks_exact(size).enumerate() {
-        let part = Case {
-            argument: k,
-            want: bytes,
-            ..c
-        };
-        if !record(part) {
-            return false;
-        }
-    }
+    let mut parts = c.want.chunks_exact(size).enumerate();
     c.want.len() % size == 0
         && (c.wanted.is_err() || c.want.len() / size == n)
+        && parts.all(|(k, want)| record(Case { argument: k, want, ..c }))
         && record(past(c, n))
 }
 

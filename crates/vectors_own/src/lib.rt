@@ -2,8 +2,6 @@
 // that no kind has. Each has a `match` of its own, since the way from code byte to kind in osdp is what is tested.
 #![tactic(auto)]
 
-ghost use Rattle.std.specs.Prelude.{◌≡◌, length};
-
 use bio::{BioMatchR, BioReadR};
 use biometric::{BioMatch, BioRead};
 use file_transfer::FileTransfer;
@@ -54,9 +52,7 @@ pub fn check(code: u8, p: &[u8]) -> Option<Result<(), Refusal>> {
     Some(answer)
 }
 
-pub fn normalise(code: u8, p: &[u8], out: &mut [u8]) -> Option<Result<usize, Refusal>>
-    ensures { length out.new ≡ length out.old }
-{
+pub fn normalise(code: u8, p: &[u8], out: &mut [u8]) -> Option<Result<usize, Refusal>> {
     let answer = match code {
         LED => LedRecord::normalise(p, out),
         OUT => OutputRecord::normalise(p, out),

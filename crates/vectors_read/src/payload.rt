@@ -1,6 +1,4 @@
 // Classes 5 and 6: a payload, read, checked and written again, by its code byte and by its kind.
-ghost use Rattle.std.specs.Prelude.{◌≡◌, length};
-
 use osdp::{Kind, Side};
 use payload_util::{Refusal, Row};
 use vectors_case::{
@@ -9,52 +7,37 @@ use vectors_case::{
 };
 use vectors_kind::reader;
 
-// The class of commands.
-const COMMANDS: u8 = 5;
-
 // Arguments: the calls that are asked for.
 const BY_CODE: usize = 1;
 
 const OF_KIND: usize = 2;
 
-// How a payload is handed to the library: by its code byte, or by the kind that has this code byte.
-#[derive(Clone, Copy)]
-enum Call {
-    ByCode(Side, u8),
-    OfKind(u8),
+pub fn run(side: Side, c: Case, out: &mut [u8]) -> bool {
+    by_code(side, c, &mut *out) && of_kind(side, c, out)
 }
 
-// None if no kind has the code byte.
-impl Call {
-    fn check(self, p: &[u8]) -> Option<Result<(), Refusal>> {
-        match self {
-            Call::ByCode(side, code) => Some(osdp::check(side, code, p)),
-            Call::OfKind(code) => vectors_own::check(code, p),
-        }
-    }
-
-    fn normalise(self, p: &[u8], out: &mut [u8]) -> Option<Result<usize, Refusal>> {
-        match self {
-            Call::ByCode(side, code) => Some(osdp::normalise(side, code, p, out)),
-            Call::OfKind(code) => vectors_own::normalise(code, p, out),
-        }
-    }
-}
-
-pub fn run(c: Case, out: &mut [u8]) -> bool
-    ensures { length out.new ≡ length out.old }
-{
-    by_code(c, &mut *out) && of_kind(c, out)
-}
-
-fn by_code(c: Case, out: &mut [u8]) -> bool {
+fn by_code(side: Side, c: Case, out: &mut [u8]) -> bool {
     if c.argument == OF_KIND {
         return true;
     }
-    let side = side_of(c);
-    finds(c, osdp::kind_of(side, c.code))
-        && c.guards(osdp::strict(side, c.code, c.input))
-        && answers(reading(c), Call::ByCode(side, c.code), out)
+    let (code, p) = (c.code, c.input);
+    let read = reading(c);
+    finds(c, osdp::kind_of(side, code))
+        && c.guards(osdp::strict(side, code, p))
+        && read.guards(osdp::check(side, code, p))
+        && read.writes_wanted(out, |room| Some(osdp::normalise(side, code, p, room)))
+}
+
+// False if no kind has the code byte.
+fn of_kind(side: Side, c: Case, out: &mut [u8]) -> bool {
+    if c.argument == BY_CODE {
+        return true;
+    }
+    let (code, p) = (c.code, c.input);
+    let read = reading(c);
+    reads(side, read)
+        && vectors_own::check(code, p).is_some_and(|g| read.guards(g))
+        && read.writes_wanted(out, |room| vectors_own::normalise(code, p, room))
 }
 
 // Whether what a code byte was found to be is what the case says.
@@ -102,28 +85,11 @@ fn code_of(kind: Kind) -> u8 {
     }
 }
 
-fn of_kind(c: Case, out: &mut [u8]) -> bool {
-    if c.argument == BY_CODE {
-        return true;
-    }
-    let read = reading(c);
-    reads(read) && answers(read, Call::OfKind(c.code), out)
-}
-
-fn side_of(c: Case) -> Side {
-    if c.class == COMMANDS {
-        Side::Command
-    } else {
-        Side::Reply
-    }
-}
-
 // Whether the kind's reader gives the wanted fields and the wanted tail. False if no kind has the code byte.
-fn reads(c: Case) -> bool {
-    if c.class == COMMANDS {
-        reader::command(c)
-    } else {
-        reader::reply(c)
+fn reads(side: Side, c: Case) -> bool {
+    match side {
+        Side::Command => reader::command(c),
+        Side::Reply => reader::reply(c),
     }
 }
 
@@ -136,9 +102,4 @@ fn reading(c: Case) -> Case {
         },
         _ => c,
     }
-}
-
-fn answers(c: Case, call: Call, out: &mut [u8]) -> bool {
-    call.check(c.input).is_some_and(|g| c.guards(g))
-        && c.writes_wanted(out, |room| call.normalise(c.input, room))
 }

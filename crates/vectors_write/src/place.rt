@@ -1,14 +1,10 @@
 // Class 14: one record of LED or OUT written at a place.
-ghost use Rattle.std.specs.Prelude.{◌≡◌, length};
-
 use crate::record;
 use lists::ListRecord;
 use payload_util::Refusal;
 use vectors_case::{Case, LED, filled};
 
-pub fn run(c: Case, out: &mut [u8]) -> bool
-    ensures { length out.new ≡ length out.old }
-{
+pub fn run(c: Case, out: &mut [u8]) -> bool {
     c.lend_room(&mut *out, |room| encode_at(c, room))
         .is_some_and(|written| wrote_at(c, written, out))
 }

@@ -1,6 +1,4 @@
 // Classes 7, 8 and 9: the writers of records made by hand, and RAW's bits.
-ghost use Rattle.std.specs.Prelude.{◌≡◌, length};
-
 use crate::{lend, record};
 use payload_util::Refusal;
 use raw_card::Raw;
@@ -9,30 +7,28 @@ use vectors_case::{
     KEEPACTIVE, KEYPAD, LED, LSTATR, MFG, NAK, OUT, PDID, RAW, TEXT, XRD,
 };
 
-const COMMANDS: u8 = 7;
-
-const BITS: u8 = 9;
-
-pub fn run(c: Case, out: &mut [u8]) -> bool
-    ensures { length out.new ≡ length out.old }
-{
-    c.writes_wanted(out, |room| write(c, room))
+pub fn command(c: Case, out: &mut [u8]) -> bool {
+    split(c).is_some_and(|(fixed, tail)| {
+        c.writes_wanted(out, |room| write_command(c.code, fixed, tail, room))
+    })
 }
 
-// The record's fixed fields are before an index, and its tail is from there on. None if the case asks for nothing that can be written.
-fn write(c: Case, out: &mut [u8]) -> Option<Result<usize, Refusal>> {
-    let at = c.argument;
-    if c.class == BITS {
-        return bits(at, c.input, out);
-    }
-    let (fixed, tail) = c.input.split_at_checked(at)?;
-    match c.class {
-        COMMANDS => command(c.code, fixed, tail, out),
-        _ => reply(c.code, fixed, tail, out),
-    }
+pub fn reply(c: Case, out: &mut [u8]) -> bool {
+    split(c).is_some_and(|(fixed, tail)| {
+        c.writes_wanted(out, |room| write_reply(c.code, fixed, tail, room))
+    })
 }
 
-fn command(code: u8, f: &[u8], tail: &[u8], out: &mut [u8]) -> Option<Result<usize, Refusal>> {
+pub fn bits(c: Case, out: &mut [u8]) -> bool {
+    c.writes_wanted(out, |room| write_bits(c.argument, c.input, room))
+}
+
+// The record's fixed fields are before an index, and its tail is from there on. None if the input ends before it.
+fn split(c: Case) -> Option<(&[u8], &[u8])> {
+    c.input.split_at_checked(c.argument)
+}
+
+fn write_command(code: u8, f: &[u8], tail: &[u8], out: &mut [u8]) -> Option<Result<usize, Refusal>> {
     let written = match code {
         LED => return lend::leds(f, out),
         OUT => return lend::outputs(f, out),
@@ -49,7 +45,7 @@ fn command(code: u8, f: &[u8], tail: &[u8], out: &mut [u8]) -> Option<Result<usi
     Some(written)
 }
 
-fn reply(code: u8, f: &[u8], tail: &[u8], out: &mut [u8]) -> Option<Result<usize, Refusal>> {
+fn write_reply(code: u8, f: &[u8], tail: &[u8], out: &mut [u8]) -> Option<Result<usize, Refusal>> {
     let written = match code {
         RAW => record::raw(f).encode(tail, out),
         FMT => record::fmt(f).encode(tail, out),
@@ -66,7 +62,7 @@ fn reply(code: u8, f: &[u8], tail: &[u8], out: &mut [u8]) -> Option<Result<usize
     Some(written)
 }
 
-fn bits(count: usize, bytes: &[u8], out: &mut [u8]) -> Option<Result<usize, Refusal>> {
+fn write_bits(count: usize, bytes: &[u8], out: &mut [u8]) -> Option<Result<usize, Refusal>> {
     let raw = Raw {
         reader: 0,
         format_code: 0,
