@@ -33,53 +33,52 @@ impl Tally {
     }
 
     // Says what is wrong with the case after those that were run, and stops there.
-    pub fn broken(mut self, rt: &impl Print, why: &str) -> io::Result<Tally> {
+    pub fn broken(&mut self, rt: &impl Print, why: &str) -> io::Result<()> {
         rt.print("broken at case ")?;
         say(rt, self.cases.wrapping_add(1), ": ")?;
         rt.print(why)?;
         self.state = State::Broken;
-        Ok(self)
+        Ok(())
     }
 
-    pub fn unfit(self, rt: &impl Print) -> io::Result<Tally> {
+    pub fn unfit(&mut self, rt: &impl Print) -> io::Result<()> {
         self.broken(rt, "it does not fit\n")
     }
 
-    pub fn unknown(self, rt: &impl Print, class: u8) -> io::Result<Tally> {
-        let t = self.broken(rt, "class ")?;
-        say(rt, u64::from(class), " is unknown\n")?;
-        Ok(t)
+    pub fn unknown(&mut self, rt: &impl Print, class: u8) -> io::Result<()> {
+        self.broken(rt, "class ")?;
+        say(rt, u64::from(class), " is unknown\n")
     }
 
     // After a read that brought nothing more.
-    pub fn finished(mut self, rt: &impl Print, unread: usize) -> io::Result<Tally> {
+    pub fn finished(&mut self, rt: &impl Print, unread: usize) -> io::Result<()> {
         if 0 < unread || 0 < self.since {
             return self.broken(rt, "the stream ends before it, or in it\n");
         }
         self.state = State::Done;
-        Ok(self)
+        Ok(())
     }
 
     // After a record that ends a stream.
-    pub fn ended(mut self, rt: &impl Print, h: Head) -> io::Result<Tally> {
+    pub fn ended(&mut self, rt: &impl Print, h: Head) -> io::Result<()> {
         if self.since != h.argument {
             return self.broken(rt, "the stream ends, and had another number of cases\n");
         }
         self.since = 0;
-        Ok(self)
+        Ok(())
     }
 
     // After one more case.
-    pub fn after(mut self, rt: &impl Print, h: Head, is_same: bool) -> io::Result<Tally> {
+    pub fn after(&mut self, rt: &impl Print, h: Head, is_same: bool) -> io::Result<()> {
         self.cases = self.cases.wrapping_add(1);
         self.since = self.since.wrapping_add(1);
         if !is_same {
             self.differ = self.differ.wrapping_add(1);
             if self.differ <= NAMED {
-                name(rt, self.cases, h)?;
+                return name(rt, self.cases, h);
             }
         }
-        Ok(self)
+        Ok(())
     }
 
     // A broken stream has no total.
