@@ -1,5 +1,5 @@
 // Runs one case on the library.
-use crate::stream::{Head, PLACE};
+use crate::stream::{Entry, PLACE};
 use osdp::Side;
 use payload_util::{
     require_at_least, require_exact_len, require_multiple_of, require_positive_multiple_of,
@@ -13,11 +13,12 @@ use vectors_write::{place, writer};
 pub const LAST: u8 = 17;
 
 // Tries a case with its input, the wanted output, and a buffer that is longer than both together. False if no row has the wanted number.
-pub fn run(h: Head, input: &[u8], want: &[u8], out: &mut [u8]) -> bool {
+pub fn run(e: Entry, out: &mut [u8]) -> bool {
+    let h = e.head;
     let Some(wanted) = h.wanted else {
         return false;
     };
-    let n = want.len();
+    let n = e.want.len();
     // a writer of n bytes is given the whole buffer, n bytes of it, one byte less, or none; the buffer is filled with one of two bytes, so that
     // a byte that is not written differs from the wanted one in some try
     let tries = [
@@ -30,9 +31,9 @@ pub fn run(h: Head, input: &[u8], want: &[u8], out: &mut [u8]) -> bool {
         let c = Case {
             code: h.code,
             argument: h.argument,
-            input,
+            input: e.input,
             wanted,
-            want,
+            want: e.want,
             room: h.room.unwrap_or(room),
             fill,
         };

@@ -16,40 +16,43 @@ const END: u8 = 255;
 // How many more bytes a case's buffer has than its input and its output together.
 const MORE: usize = 256;
 
+// The longest buffer of a case: for the longest input and output together.
+const LONGEST: usize = 131840;
+
+// Runs a case.
+fn whole(rt: &impl Print, e: Entry, out: &mut [u8], tally: &mut Tally) -> io::Result<()> {
+    let n = e
+        .input
+        .len()
+        .saturating_add(e.want.len())
+        .saturating_add(MORE);
+    let Some(out) = out.get_mut(..n) else {
+        return tally.unfit(rt);
+    };
+    tally.after(rt, e.head, case::run(e, out))
+}
+
+fn by_class(rt: &impl Print, e: Entry, out: &mut [u8], tally: &mut Tally) -> io::Result<()> {
+    match e.head.class {
+        0..=case::LAST => whole(rt, e, out, tally),
+        END => tally.ended(rt, e.head),
+        class => tally.unknown(rt, class),
+    }
+}
+
 // A stream that is replayed: the space that it is read into, the buffer that cases write to, and what was found so far.
 #[derive(Drop)]
 struct Replay {
     space: Space,
-    out: [u8; 131840],
+    out: [u8; LONGEST],
     tally: Tally,
 }
 
 impl Replay {
-    // Runs a case whose input and output are in the space.
-    fn whole(&mut self, rt: &impl Print, e: Entry) -> io::Result<()> {
-        let Some((input, want)) = self.space.input_and_output(e) else {
-            return self.tally.unfit(rt);
-        };
-        let n = input.len().saturating_add(want.len()).saturating_add(MORE);
-        let Some(out) = self.out.get_mut(..n) else {
-            return self.tally.unfit(rt);
-        };
-        let is_same = case::run(e.head, input, want, out);
-        self.tally.after(rt, e.head, is_same)
-    }
-
-    fn by_class(&mut self, rt: &impl Print, e: Entry) -> io::Result<()> {
-        match e.head.class {
-            0..=case::LAST => self.whole(rt, e),
-            END => self.tally.ended(rt, e.head),
-            class => self.tally.unknown(rt, class),
-        }
-    }
-
     // One case, one read, or the end.
     fn turn<R: Read>(&mut self, rt: &impl Print, input: &mut R) -> io::Result<()> {
         match self.space.take() {
-            Ok(Some(e)) => self.by_class(rt, e),
+            Ok(Some(e)) => by_class(rt, e, &mut self.out, &mut self.tally),
             Ok(None) => match self.space.refill(input)? {
                 0 => self.tally.finished(rt, self.space.unread()),
                 _ => Ok(()),
@@ -73,7 +76,7 @@ impl Replay {
 fn main(rt: HostRuntime) -> io::Result<()> {
     let mut replay = Replay {
         space: Space::new(),
-        out: [0; 131840],
+        out: [0; LONGEST],
         tally: Tally::new(),
     };
     replay.all(&rt, &mut rt.stdin())?;

@@ -9,6 +9,9 @@ use vectors_case::wanted;
 // The space holds the bytes that were read, up to this index, and from there on the input and the output of the case that was taken last.
 const BLOCKS: usize = 262144;
 
+// The whole space: behind BLOCKS is room for the longest input and output together.
+const SPACE: usize = 393728;
+
 // The class whose room is in the stream.
 pub const PLACE: u8 = 14;
 
@@ -24,12 +27,12 @@ pub struct Head {
     pub room: Option<usize>,
 }
 
-// A case whose bytes are in the space: the input begins at BLOCKS, the output where the input ends.
-#[derive(Clone, Copy, Debug, PartialEq, Eq)]
-pub struct Entry {
+// A case whose bytes are in the space.
+#[derive(Clone, Copy)]
+pub struct Entry<'a> {
     pub head: Head,
-    mid: usize,
-    end: usize,
+    pub input: &'a [u8],
+    pub want: &'a [u8],
 }
 
 // A case that does not fit into the space.
@@ -105,17 +108,6 @@ fn read_packed(s: &[u8]) -> Option<Packed> {
     })
 }
 
-// Puts the input and the output of a case whose stored bytes begin at an index after BLOCKS.
-fn unpack(space: &mut [u8], at: usize, p: Packed) -> Result<Entry, Unfit> {
-    let mid = put_block(&mut *space, at, BLOCKS, p.input)?;
-    let end = put_block(space, at.saturating_add(p.input.stored), mid, p.output)?;
-    Ok(Entry {
-        head: p.head,
-        mid,
-        end,
-    })
-}
-
 // Puts a block whose stored bytes are at one index at another, and says where it ends.
 fn put_block(space: &mut [u8], at: usize, to: usize, b: Block) -> Result<usize, Unfit> {
     let stored = to.saturating_add(b.stored);
@@ -130,7 +122,7 @@ fn put_block(space: &mut [u8], at: usize, to: usize, b: Block) -> Result<usize, 
 
 #[derive(Drop)]
 pub struct Space {
-    bytes: [u8; 393728],
+    bytes: [u8; SPACE],
     // the bytes that were read and not taken: from one index up to another
     from: usize,
     to: usize,
@@ -141,7 +133,7 @@ pub struct Space {
 impl Space {
     pub fn new() -> Space {
         Space {
-            bytes: [0; 393728],
+            bytes: [0; SPACE],
             from: 0,
             to: 0,
         }
@@ -153,7 +145,8 @@ impl Space {
         self.to - self.from
     }
 
-    // Takes a case, and puts its input and its output into the space. None if only the beginning of a case is there, or nothing.
+    // Takes a case, and puts its input behind the unread bytes and its output behind its input. None if only the beginning of a case is there, or
+    // nothing.
     pub fn take(&mut self) -> Result<Option<Entry>, Unfit> {
         let unread = &self.bytes[self.from..self.to];
         let Some(p) = read_packed(unread) else {
@@ -164,16 +157,21 @@ impl Space {
             return Ok(None);
         }
         let at = self.from.saturating_add(p.head_size);
-        let entry = unpack(&mut self.bytes, at, p)?;
+        let mid = put_block(&mut self.bytes, at, BLOCKS, p.input)?;
+        let end = put_block(
+            &mut self.bytes,
+            at.saturating_add(p.input.stored),
+            mid,
+            p.output,
+        )?;
         self.from += size;
-        Ok(Some(entry))
-    }
-
-    // The input and the output of the case that was taken last.
-    pub fn input_and_output(&self, e: Entry) -> Option<(&[u8], &[u8])> {
-        let input = self.bytes.get(BLOCKS..e.mid)?;
-        let output = self.bytes.get(e.mid..e.end)?;
-        Some((input, output))
+        let input = self.bytes.get(BLOCKS..mid).ok_or(Unfit)?;
+        let want = self.bytes.get(mid..end).ok_or(Unfit)?;
+        Ok(Some(Entry {
+            head: p.head,
+            input,
+            want,
+        }))
     }
 
     // Moves the unread bytes to the front, reads once behind them, and returns how many more there are.
