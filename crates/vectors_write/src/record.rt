@@ -8,8 +8,7 @@ use mfg::Mfg;
 use nak::{Nak, NakErrorCode};
 use output::{OutputControlCode, OutputRecord};
 use plain::acu_rx_size::AcuRxSize;
-use plain::com::{AddressAndBaud, Com};
-use plain::comset::ComSet;
+use plain::com::AddressAndBaud;
 use plain::keep_active::KeepActive;
 use plain::lstat::LStatR;
 use plain::pdid::PdId;
@@ -139,15 +138,7 @@ pub(crate) fn keypad(f: &[u8]) -> Keypad {
     }
 }
 
-pub(crate) fn com_set(f: &[u8]) -> ComSet {
-    address_and_baud(f)
-}
-
-pub(crate) fn com_reply(f: &[u8]) -> Com {
-    address_and_baud(f)
-}
-
-fn address_and_baud<const CODE: u8>(f: &[u8]) -> AddressAndBaud<CODE> {
+pub(crate) fn address_and_baud<const CODE: u8>(f: &[u8]) -> AddressAndBaud<CODE> {
     AddressAndBaud {
         address: byte(f, 0),
         baud: u32_at(f, 1),
