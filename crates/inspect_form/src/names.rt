@@ -4,74 +4,71 @@ ghost use Rattle.codes.specs.CommandCode.{read_command};
 ghost use Rattle.codes.specs.ReplyCode.{read_reply};
 
 use crate::shown::Coded;
+use codes::{CommandCode, ReplyCode};
 
 // A name for each byte of the code table, and for no other.
-#[tactic(auto, unfolding(codes::specs::CommandCode::read_command))]
 pub fn command(code: u8) -> Option<&'static str>
     ensures { is_some result ≡ is_ok (read_command code) }
 {
-    Some(match code {
-        0x60 => "POLL",
-        0x61 => "ID",
-        0x62 => "CAP",
-        0x64 => "LSTAT",
-        0x65 => "ISTAT",
-        0x66 => "OSTAT",
-        0x67 => "RSTAT",
-        0x68 => "OUT",
-        0x69 => "LED",
-        0x6A => "BUZ",
-        0x6B => "TEXT",
-        0x6E => "COMSET",
-        0x73 => "BIOREAD",
-        0x74 => "BIOMATCH",
-        0x75 => "KEYSET",
-        0x76 => "CHLNG",
-        0x77 => "SCRYPT",
-        0x7B => "ACURXSIZE",
-        0x7C => "FILETRANSFER",
-        0x80 => "MFG",
-        0xA1 => "XWRITE",
-        0xA2 => "ABORT",
-        0xA3 => "PIVDATA",
-        0xA4 => "GENAUTH",
-        0xA5 => "CRAUTH",
-        0xA7 => "KEEPACTIVE",
-        _ => return None,
+    Some(match CommandCode::from_byte(code).ok()? {
+        CommandCode::Poll => "POLL",
+        CommandCode::Id => "ID",
+        CommandCode::Cap => "CAP",
+        CommandCode::LStat => "LSTAT",
+        CommandCode::IStat => "ISTAT",
+        CommandCode::OStat => "OSTAT",
+        CommandCode::RStat => "RSTAT",
+        CommandCode::Out => "OUT",
+        CommandCode::Led => "LED",
+        CommandCode::Buz => "BUZ",
+        CommandCode::Text => "TEXT",
+        CommandCode::ComSet => "COMSET",
+        CommandCode::BioRead => "BIOREAD",
+        CommandCode::BioMatch => "BIOMATCH",
+        CommandCode::KeySet => "KEYSET",
+        CommandCode::Chlng => "CHLNG",
+        CommandCode::SCrypt => "SCRYPT",
+        CommandCode::AcuRxSize => "ACURXSIZE",
+        CommandCode::FileTransfer => "FILETRANSFER",
+        CommandCode::Mfg => "MFG",
+        CommandCode::XWrite => "XWRITE",
+        CommandCode::Abort => "ABORT",
+        CommandCode::PivData => "PIVDATA",
+        CommandCode::GenAuth => "GENAUTH",
+        CommandCode::CrAuth => "CRAUTH",
+        CommandCode::KeepActive => "KEEPACTIVE",
     })
 }
 
-#[tactic(auto, unfolding(codes::specs::ReplyCode::read_reply))]
 pub fn reply(code: u8) -> Option<&'static str>
     ensures { is_some result ≡ is_ok (read_reply code) }
 {
-    Some(match code {
-        0x40 => "ACK",
-        0x41 => "NAK",
-        0x45 => "PDID",
-        0x46 => "PDCAP",
-        0x48 => "LSTATR",
-        0x49 => "ISTATR",
-        0x4A => "OSTATR",
-        0x4B => "RSTATR",
-        0x50 => "RAW",
-        0x51 => "FMT",
-        0x53 => "KEYPAD",
-        0x54 => "COM",
-        0x57 => "BIOREADR",
-        0x58 => "BIOMATCHR",
-        0x76 => "CCRYPT",
-        0x78 => "RMACI",
-        0x79 => "BUSY",
-        0x7A => "FTSTAT",
-        0x80 => "PIVDATAR",
-        0x81 => "GENAUTHR",
-        0x82 => "CRAUTHR",
-        0x83 => "MFGSTATR",
-        0x84 => "MFGERRR",
-        0x90 => "MFGREP",
-        0xB1 => "XRD",
-        _ => return None,
+    Some(match ReplyCode::from_byte(code).ok()? {
+        ReplyCode::Ack => "ACK",
+        ReplyCode::Nak => "NAK",
+        ReplyCode::PdId => "PDID",
+        ReplyCode::PdCap => "PDCAP",
+        ReplyCode::LStatR => "LSTATR",
+        ReplyCode::IStatR => "ISTATR",
+        ReplyCode::OStatR => "OSTATR",
+        ReplyCode::RStatR => "RSTATR",
+        ReplyCode::Raw => "RAW",
+        ReplyCode::Fmt => "FMT",
+        ReplyCode::Keypad => "KEYPAD",
+        ReplyCode::Com => "COM",
+        ReplyCode::BioReadR => "BIOREADR",
+        ReplyCode::BioMatchR => "BIOMATCHR",
+        ReplyCode::CCrypt => "CCRYPT",
+        ReplyCode::RMacI => "RMACI",
+        ReplyCode::Busy => "BUSY",
+        ReplyCode::FtStat => "FTSTAT",
+        ReplyCode::PivDataR => "PIVDATAR",
+        ReplyCode::GenAuthR => "GENAUTHR",
+        ReplyCode::CrAuthR => "CRAUTHR",
+        ReplyCode::MfgStatR => "MFGSTATR",
+        ReplyCode::MfgErrR => "MFGERRR",
+        ReplyCode::MfgRep => "MFGREP",
+        ReplyCode::Xrd => "XRD",
     })
 }
 
