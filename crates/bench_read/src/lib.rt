@@ -3,7 +3,7 @@
 // it is. Of the writer of frames and of the CRC they say everything.
 #![tactic(auto)]
 
-use crate::number::{answer, answered, refused, sum, tailed};
+use crate::number::{answered, sum, tailed};
 use bio::{BioMatchR, BioReadR};
 use biometric::{BioHead, BioMatch, BioRead};
 use file_transfer::FileTransfer;
@@ -46,28 +46,25 @@ fn file(f: FileTransfer) -> u64 {
     f.file_type as u64 + f.total_size as u64 + f.offset as u64
 }
 
+fn text(t: Text) -> u64 {
+    sum(&[
+        t.reader,
+        t.command.as_byte(),
+        t.temp_time_s,
+        t.row,
+        t.column,
+    ])
+}
+
 fn raw(r: Raw) -> u64 {
     sum(&[r.reader, r.format_code]).wrapping_add(r.bit_count as u64)
 }
 
-// Not by `answered`: with the closure it is slower, 178 instructions in place of 169 for a text of 24 bytes, and 1,011 in place of 988 for one of 255.
 #[unsafe(no_mangle)]
 pub extern "C" fn bench_read_text(p: &[u8]) -> i32
     ensures { Answers (check text_kind p.now) result }
 {
-    match Text::decode(p) {
-        Ok(t) => {
-            let n = sum(&[
-                t.reader,
-                t.command.as_byte(),
-                t.temp_time_s,
-                t.row,
-                t.column,
-            ]);
-            answer(tailed(n, Text::text(p)))
-        }
-        Err(e) => refused(e),
-    }
+    answered(Text::decode(p), |t| tailed(text(t), Text::text(p)))
 }
 
 #[unsafe(no_mangle)]

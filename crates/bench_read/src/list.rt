@@ -43,22 +43,15 @@ fn output(r: OutputRecord) -> u64 {
 }
 
 fn leds(walker: LedWalker<'_>) -> u64 {
-    let mut n = LedRecord::count(walker.payload) as u64;
-    for r in walker {
-        n = n.wrapping_add(led(r));
-    }
-    n
+    let count = LedRecord::count(walker.payload) as u64;
+    walker.fold(count, |n, r| n.wrapping_add(led(r)))
 }
 
 fn outputs(p: &[u8]) -> u64 {
-    let count = OutputRecord::count(p);
-    let mut n = count as u64;
-    for k in 0..count {
-        if let Ok(r) = OutputRecord::decode_at(p, OutputRecord::WIRE_LEN * k) {
-            n = n.wrapping_add(output(r));
-        }
-    }
-    n
+    (0..p.len())
+        .step_by(OutputRecord::WIRE_LEN)
+        .filter_map(|offset| OutputRecord::decode_at(p, offset).ok())
+        .fold(OutputRecord::count(p) as u64, |n, r| n.wrapping_add(output(r)))
 }
 
 #[unsafe(no_mangle)]

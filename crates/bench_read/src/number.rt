@@ -14,7 +14,7 @@ pub(crate) fn sum(fields: &[u8]) -> u64 {
 
 // The number in 31 bits, which its lowest 62 bits decide.
 #[tactic(auto, using(crate::proofs::Answered::not_negative))]
-pub(crate) fn answer(n: u64) -> i32
+fn answer(n: u64) -> i32
     ensures { NotNegative result }
 {
     (n.wrapping_add(n / LIMIT) % LIMIT) as i32
