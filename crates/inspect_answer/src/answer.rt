@@ -1,12 +1,10 @@
 // What the library says of a payload, in words.
-ghost use Rattle.std.specs.Prelude.{◌<◌};
-
 use crate::record::record;
 use inspect_fields::{of, tail};
 use inspect_form::names;
 use inspect_form::sentences::sentence;
 use inspect_form::shown::Hex;
-use inspect_line::Line;
+use inspect_line::{Head, Line};
 use led::LedRecord;
 use lists::ListRecord;
 use osdp::{Kind, Side};
@@ -15,9 +13,9 @@ use payload_util::Refusal;
 use std::io;
 use std::io::Write;
 
-pub(crate) fn title<W: Write>(line: &Line, out: &mut W) -> io::Result<()> {
-    let code = line.code;
-    let (side, name) = match line.side {
+pub(crate) fn title<W: Write>(line: &Line, head: Head, out: &mut W) -> io::Result<()> {
+    let code = head.code;
+    let (side, name) = match head.side {
         Side::Command => ("command", names::command(code)),
         Side::Reply => ("reply", names::reply(code)),
     };
@@ -40,40 +38,31 @@ pub(crate) fn refusal<W: Write>(e: Refusal, out: &mut W) -> io::Result<()> {
     )
 }
 
-// How many bytes a record has, or 1 for none; only LED and OUT have more than one record.
-fn record_len(kind: Kind, p: &[u8]) -> usize
-    ensures { 0 < result }
-{
-    match kind {
+// The records, one after another; only LED and OUT have more than one.
+fn records<W: Write>(kind: Kind, p: &[u8], tail: &[u8], out: &mut W) -> io::Result<()> {
+    let width = match kind {
         Kind::Led => LedRecord::WIRE_LEN,
         Kind::Out => OutputRecord::WIRE_LEN,
-        _ => p.len().max(1),
-    }
-}
-
-// The records, one after another.
-fn records<W: Write>(kind: Kind, p: &[u8], tail: &[u8], out: &mut W) -> io::Result<()> {
-    for offset in (0..p.len()).step_by(record_len(kind, p)) {
+        _ => return record(kind, &of(kind, p, 0), tail, out),
+    };
+    for offset in (0..p.len()).step_by(width) {
         record(kind, &of(kind, p, offset), tail, out)?;
     }
     Ok(())
 }
 
 // The strict check's first complaint.
-fn strict<W: Write>(line: &Line, out: &mut W) -> io::Result<()> {
-    match osdp::strict(line.side, line.code, line.bytes()) {
-        Ok(()) => Ok(()),
-        Err(e) => {
-            write!(out, "  strict: ")?;
-            refusal(e, out)
-        }
+fn strict<W: Write>(head: Head, p: &[u8], out: &mut W) -> io::Result<()> {
+    if let Err(e) = osdp::strict(head.side, head.code, p) {
+        write!(out, "  strict: ")?;
+        refusal(e, out)?;
     }
+    Ok(())
 }
 
 // The normalised bytes, where they are not the payload's.
-fn normalised<W: Write>(line: &Line, space: &mut [u8], out: &mut W) -> io::Result<()> {
-    let p = line.bytes();
-    let Ok(n) = osdp::normalise(line.side, line.code, p, &mut *space) else {
+fn normalised<W: Write>(head: Head, p: &[u8], space: &mut [u8], out: &mut W) -> io::Result<()> {
+    let Ok(n) = osdp::normalise(head.side, head.code, p, &mut *space) else {
         return Ok(());
     };
     match space.get(..n) {
@@ -83,12 +72,16 @@ fn normalised<W: Write>(line: &Line, space: &mut [u8], out: &mut W) -> io::Resul
 }
 
 // A payload that was not refused. The space is for RAW's bits and for the normalised bytes.
-pub(crate) fn accepted<W: Write>(line: &Line, space: &mut [u8], out: &mut W) -> io::Result<()> {
-    let p = line.bytes();
-    let Ok(kind) = osdp::kind_of(line.side, line.code) else {
+pub(crate) fn accepted<W: Write>(
+    head: Head,
+    p: &[u8],
+    space: &mut [u8],
+    out: &mut W,
+) -> io::Result<()> {
+    let Ok(kind) = osdp::kind_of(head.side, head.code) else {
         return Ok(());
     };
     records(kind, p, tail(kind, p, &mut *space), out)?;
-    strict(line, out)?;
-    normalised(line, space, out)
+    strict(head, p, out)?;
+    normalised(head, p, space, out)
 }

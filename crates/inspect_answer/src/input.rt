@@ -4,7 +4,7 @@ ghost use Rattle.std.specs.Prelude.{◌≤◌, length, IfOk};
 use crate::answer::{accepted, refusal, title};
 use crate::failure::fail;
 use inspect_form::shown::Text;
-use inspect_line::{Fault, LONGEST, Line, Place, WORD_SHOWN};
+use inspect_line::{Fault, Head, LONGEST, Line, Place, WORD_SHOWN};
 use std::io;
 use std::io::{Read, Write};
 
@@ -45,13 +45,13 @@ impl Input {
         }
     }
 
-    fn answer<W: Write>(&mut self, out: &mut W) -> io::Result<()> {
-        let line = &self.line;
-        title(line, out)?;
-        match osdp::check(line.side, line.code, line.bytes()) {
+    fn answer<W: Write>(&mut self, head: Head, out: &mut W) -> io::Result<()> {
+        let p = self.line.bytes();
+        title(&self.line, head, out)?;
+        match osdp::check(head.side, head.code, p) {
             Ok(()) => {
                 self.read = self.read.saturating_add(1);
-                accepted(line, &mut self.space, out)
+                accepted(head, p, &mut self.space, out)
             }
             Err(e) => {
                 self.refused = self.refused.saturating_add(1);
@@ -64,7 +64,7 @@ impl Input {
     fn end_line<W: Write>(&mut self, out: &mut W) -> io::Result<()> {
         self.line.end();
         match self.line.place {
-            Place::Payload | Place::Whole => self.answer(out),
+            Place::Payload(head) | Place::Whole(head) => self.answer(head, out),
             Place::Bad(fault) => self.complain(fault, out),
             _ => Ok(()),
         }

@@ -22,22 +22,31 @@ pub enum Fault {
     TooLong,
 }
 
-// What the next byte belongs to.
+// What stands before a payload.
+#[derive(Clone, Copy, Debug, PartialEq, Eq)]
+pub struct Head {
+    pub side: Side,
+    pub code: u8,
+}
+
+// What the next byte belongs to, and what is known by then.
 #[derive(Clone, Copy, Debug, PartialEq, Eq)]
 pub enum Place {
     Start,
-    Word,
-    Gap,
+    // the word, which began at this column
+    Word(usize),
+    // what is between the word and the code
+    Gap(Side),
     // the second digit of the code, after this one
-    Code(u8),
+    Code(Side, u8),
     // the blank after the code
-    Coded,
-    Payload,
+    Coded(Head),
+    Payload(Head),
     // the second digit of a byte, after this one
-    Half(u8),
+    Half(Head, u8),
     // the rest is passed over: nothing stood before it, a payload, or a fault
     Comment,
-    Whole,
+    Whole(Head),
     Bad(Fault),
 }
 
@@ -47,21 +56,13 @@ pub struct Line {
     pub number: usize,
     pub column: usize,
     pub place: Place,
-    pub side: Side,
-    pub code: u8,
-    // the column of the word
-    word: usize,
     // the payload, or before it the word
     bytes: ArrayVec<u8, LONGEST>,
 }
 
-fn digit(b: u8) -> Option<u8> {
-    char::from(b).to_digit(16).map(|d| d as u8)
-}
-
-// The byte of two digits.
-fn joined(high: u8, low: u8) -> u8 {
-    high << 4 | low
+// The digit's value, or what is wrong with a line that has no digit here.
+fn digit(b: u8, fault: Fault) -> Result<u8, Fault> {
+    char::from(b).to_digit(16).map(|d| d as u8).ok_or(fault)
 }
 
 fn is_blank(b: u8) -> bool {
@@ -69,25 +70,30 @@ fn is_blank(b: u8) -> bool {
 }
 
 // Before the code.
-fn gap(b: u8) -> Result<Place, Fault> {
+fn gap(side: Side, b: u8) -> Result<Place, Fault> {
     if is_blank(b) {
-        return Ok(Place::Gap);
+        return Ok(Place::Gap(side));
     }
     if b == b'#' {
         return Err(Fault::NoCode);
     }
-    Ok(Place::Code(digit(b).ok_or(Fault::Code)?))
+    Ok(Place::Code(side, digit(b, Fault::Code)?))
+}
+
+fn code(side: Side, high: u8, b: u8) -> Result<Place, Fault> {
+    let code = high << 4 | digit(b, Fault::Code)?;
+    Ok(Place::Coded(Head { side, code }))
 }
 
 // Before a byte of the payload.
-fn payload(b: u8) -> Result<Place, Fault> {
+fn payload(head: Head, b: u8) -> Result<Place, Fault> {
     if is_blank(b) {
-        return Ok(Place::Payload);
+        return Ok(Place::Payload(head));
     }
     if b == b'#' {
-        return Ok(Place::Whole);
+        return Ok(Place::Whole(head));
     }
-    Ok(Place::Half(digit(b).ok_or(Fault::Digit)?))
+    Ok(Place::Half(head, digit(b, Fault::Digit)?))
 }
 
 impl fmt::Display for Fault {
@@ -114,9 +120,6 @@ impl Line {
             number: 1,
             column: 0,
             place: Place::Start,
-            side: Side::Reply,
-            code: 0,
-            word: 0,
             bytes: ArrayVec::new(),
         }
     }
@@ -148,64 +151,57 @@ impl Line {
         if b == b'#' {
             return Ok(Place::Comment);
         }
-        self.word = self.column;
-        self.word(b)
+        self.word(self.column, b)
     }
 
-    fn word(&mut self, b: u8) -> Result<Place, Fault> {
+    fn word(&mut self, column: usize, b: u8) -> Result<Place, Fault> {
         if is_blank(b) {
-            return self.named();
+            return self.named(column);
         }
         if self.bytes.len() <= WORD_SHOWN {
             self.bytes.push(b);
         }
-        Ok(Place::Word)
+        Ok(Place::Word(column))
     }
 
     // After the word.
-    fn named(&mut self) -> Result<Place, Fault> {
-        self.side = match self.bytes() {
+    fn named(&mut self, column: usize) -> Result<Place, Fault> {
+        let side = match self.bytes() {
             b"command" => Side::Command,
             b"reply" => Side::Reply,
             _ => {
-                self.column = self.word;
+                self.column = column;
                 return Err(Fault::Word);
             }
         };
         self.bytes.clear();
-        Ok(Place::Gap)
+        Ok(Place::Gap(side))
     }
 
-    fn code(&mut self, high: u8, b: u8) -> Result<Place, Fault> {
-        self.code = joined(high, digit(b).ok_or(Fault::Code)?);
-        Ok(Place::Coded)
-    }
-
-    fn half(&mut self, high: u8, b: u8) -> Result<Place, Fault> {
+    fn half(&mut self, head: Head, high: u8, b: u8) -> Result<Place, Fault> {
         if is_blank(b) {
             return Err(Fault::Odd);
         }
-        let byte = joined(high, digit(b).ok_or(Fault::Digit)?);
+        let byte = high << 4 | digit(b, Fault::Digit)?;
         if self.bytes.is_full() {
             return Err(Fault::TooLong);
         }
         self.bytes.push(byte);
-        Ok(Place::Payload)
+        Ok(Place::Payload(head))
     }
 
     // What follows one more byte.
     fn next(&mut self, b: u8) -> Result<Place, Fault> {
         match self.place {
             Place::Start => self.start(b),
-            Place::Word => self.word(b),
-            Place::Gap => gap(b),
-            Place::Code(high) => self.code(high, b),
-            Place::Coded if is_blank(b) => Ok(Place::Payload),
-            Place::Coded => Err(Fault::Code),
-            Place::Payload => payload(b),
-            Place::Half(high) => self.half(high, b),
-            Place::Comment => Ok(Place::Comment),
-            Place::Whole => Ok(Place::Whole),
+            Place::Word(column) => self.word(column, b),
+            Place::Gap(side) => gap(side, b),
+            Place::Code(side, high) => code(side, high, b),
+            Place::Coded(head) if is_blank(b) => Ok(Place::Payload(head)),
+            Place::Coded(_) => Err(Fault::Code),
+            Place::Payload(head) => payload(head, b),
+            Place::Half(head, high) => self.half(head, high, b),
+            Place::Comment | Place::Whole(_) => Ok(self.place),
             Place::Bad(fault) => Err(fault),
         }
     }
@@ -216,16 +212,13 @@ impl Line {
             return;
         }
         self.column = self.column.saturating_add(1);
-        self.place = match self.next(b) {
-            Ok(place) => place,
-            Err(fault) => Place::Bad(fault),
-        };
+        self.place = self.next(b).unwrap_or_else(Place::Bad);
     }
 
     // Ends the line, where a blank completes what it ends in: its place is then Payload or Whole, Bad, or one that holds nothing.
     pub fn end(&mut self) {
         self.take(b' ');
-        if matches!(self.place, Place::Gap) {
+        if matches!(self.place, Place::Gap(_)) {
             self.place = Place::Bad(Fault::NoCode);
         }
     }
