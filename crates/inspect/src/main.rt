@@ -46,13 +46,8 @@ fn bad_name(rt: &impl Eprint, why: &str) -> io::Result<()> {
 }
 
 // What the argument asks for.
-fn argued<P: Env + Files + Print + Eprint + AllocGlobal>(rt: &P) -> io::Result<()> {
-    let mut space = [0u8; 4096];
-    let n = match rt.arg(1, &mut space) {
-        Ok(n) => n,
-        Err(_) => return bad_name(rt, "File name too long"),
-    };
-    let Ok(name) = str::from_utf8(&space[0..n]) else {
+fn argued<P: Files + Print + Eprint + AllocGlobal>(rt: &P, argument: &[u8]) -> io::Result<()> {
+    let Ok(name) = str::from_utf8(argument) else {
         return bad_name(rt, "not UTF-8");
     };
     match name {
@@ -62,17 +57,15 @@ fn argued<P: Env + Files + Print + Eprint + AllocGlobal>(rt: &P) -> io::Result<(
     }
 }
 
-fn has_argument(rt: &impl Env, i: usize) -> bool {
-    let mut space = [0u8; 1];
-    !matches!(rt.arg(i, &mut space), Err(FillError::NotPresent))
-}
-
+// Not by `env::args`, which fails where any argument is not UTF-8, the program's own name too.
 fn main(rt: HostRuntime) -> io::Result<()> {
-    if has_argument(&rt, 2) {
+    let mut space = [0u8; 4096];
+    if !matches!(rt.arg(2, &mut space), Err(FillError::NotPresent)) {
         return eprintln!(rt; "inspect: one file at most; inspect --help says more");
     }
-    if has_argument(&rt, 1) {
-        return argued(&rt);
+    match rt.arg(1, &mut space) {
+        Ok(n) => argued(&rt, &space[..n]),
+        Err(FillError::TooLong) => bad_name(&rt, "File name too long"),
+        Err(FillError::NotPresent) => inspect(&rt, &mut rt.reader()),
     }
-    inspect(&rt, &mut rt.reader())
 }
