@@ -48,10 +48,11 @@ fn leds(walker: LedWalker<'_>) -> u64 {
 }
 
 fn outputs(p: &[u8]) -> u64 {
-    (0..p.len())
-        .step_by(OutputRecord::WIRE_LEN)
-        .filter_map(|offset| OutputRecord::decode_at(p, offset).ok())
-        .fold(OutputRecord::count(p) as u64, |n, r| n.wrapping_add(output(r)))
+    let mut n = OutputRecord::count(p) as u64;
+    for offset in (0..p.len()).step_by(OutputRecord::WIRE_LEN) {
+        n = n.wrapping_add(OutputRecord::decode_at(p, offset).map_or(0, output));
+    }
+    n
 }
 
 #[unsafe(no_mangle)]
