@@ -11,22 +11,18 @@ use mir.Facts.{and_yes}
 use lib.ListN.{length, get_or, take, drop}
 use lib.Seq.{take_all, drop-cons, drop-drop}
 use Rattle.payload_util.specs.Bytes.{Bytes}
-use Rattle.payload_util.specs.Refusals.{require, ◌also◌, in_order, Guard, refusal}
+use Rattle.payload_util.specs.Refusals.{◌also◌, in_order, Guard}
 use Rattle.payload_util.proofs.Below.{all, below}
-use Rattle.text.specs.Text.{text_code, printable_at, printable, bytes_of, KnownWord}
+use Rattle.text.specs.Text.{told, printable_at, printable, bytes_of, KnownWord}
 use Rattle.std.specs.Prelude.{Ok, Err, Some}
 use Rattle.std.specs.List.{list_all, position_from}
 use Rattle.std.specs.Option.{is_some}
 use Rattle.std.specs.Simd.{first_chunks}
 use Rattle.std.specs.Int.{w64, from_le_bytes}
-use Rattle.payload_util.specs.declared.Row.TheVariants.{UnprintableText}
 
 -- ---- a text, byte by byte and in two parts
 
--- the answer to a yes or no, and back
-abbrev pub told : Bool → Guard
-told t = require t (refusal UnprintableText text_code 0 0)
-
+-- an answer as a yes or no
 abbrev pub passes : Guard → Bool
 passes (Ok _) = true
 passes (Err e) = false
@@ -35,9 +31,9 @@ passes (Err e) = false
 abbrev shown : ℕ → Bool
 shown b = passes (printable_at (b ∷ []) 0)
 
-shown_is : (t : Bool) → told t ≡ told (passes (told t))
-shown_is true = refl
-shown_is false = refl
+told_back : (t : Bool) → told (passes (told t)) ≡ told t
+told_back true = refl
+told_back false = refl
 
 later : (b : ℕ) (s : List ℕ) (i n : ℕ) → in_order (printable_at (b ∷ s)) (suc i) n ≡ in_order (printable_at s) i n
 unfolding in_order
@@ -46,7 +42,7 @@ later b s i (suc n) = ap (λ (g : Guard). printable_at s i also g) (later b s (s
 
 first_byte : (b : ℕ) (s : List ℕ) → printable (b ∷ s) ≡ (told (shown b) also printable s)
 unfolding printable in_order
-first_byte b s = rw (later b s 0 (length s)) (ap (λ (g : Guard). g also printable s) (shown_is (leb 0x20 b && leb b 0x7E)))
+first_byte b s = rw (later b s 0 (length s)) (ap (λ (g : Guard). g also printable s) (sym (told_back (leb 0x20 b && leb b 0x7E))))
 
 told_also : (t : Bool) (g h : Guard) → (told t also g also h) ≡ ((told t also g) also h)
 told_also true g h = refl
@@ -201,14 +197,10 @@ pub singly : (s : List ℕ) → told (list_all (λ b. leb 0x20 b && leb b 0x7E) 
 unfolding printable in_order
 singly [] = refl
 singly (b ∷ s) =
-    rw (first_byte b s, ← singly s, ← shown_is (leb 0x20 b && leb b 0x7E)) (both (leb 0x20 b && leb b 0x7E) (list_all (λ c. leb 0x20 c && leb c 0x7E) s))
+    rw (first_byte b s, ← singly s, told_back (leb 0x20 b && leb b 0x7E)) (both (leb 0x20 b && leb b 0x7E) (list_all (λ c. leb 0x20 c && leb c 0x7E) s))
 
 told_shown : (s : List ℕ) → told (all_shown s) ≡ printable s
 told_shown s = rw (← singly s) (told_back (list_all (λ b. leb 0x20 b && leb b 0x7E) s))
-  where
-    told_back : (t : Bool) → told (passes (told t)) ≡ told t
-    told_back true = refl
-    told_back false = refl
 
 words_told : (n : ℕ) (s : List ℕ) → (told (list_all all_shown (first_chunks 8 n s)) also printable (drop (n * 8) s)) ≡ printable s
 words_told zero s = refl

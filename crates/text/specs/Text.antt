@@ -1,5 +1,5 @@
 -- osdp_TEXT (0x6B), R4.3, §6.12, Tables 21 and 22: reader, command, time, row, column, length, and so many bytes of text.
-use Rattle.std.specs.Prelude.{◌&&◌, ◌≡◌, List, [], ◌∷◌, ℕ, zero, suc, ◌/◌, ◌%◌, leb, length, drop, Ok, Err}
+use Rattle.std.specs.Prelude.{Bool, ◌&&◌, ◌≡◌, List, [], ◌∷◌, ℕ, zero, suc, ◌/◌, ◌%◌, leb, length, drop, Ok, Err}
 use Rattle.payload_util.specs.Prelude.{byte_at, require, ◌also◌, head_and_tail, at_most, in_order, named, Outcome, guard_of, value_or, nothing, Form, tailed}
 use Rattle.text.specs.declared.Text.{Text}
 use Rattle.text.specs.declared.TextCommand.{TextCommand}
@@ -24,9 +24,13 @@ text_commands = PermanentNoWrap ∷ PermanentWrap ∷ TemporaryNoWrap ∷ Tempor
 unfoldable pub read_text_command : ℕ → Outcome TextCommand
 read_text_command b = named text_command_byte Ok (Err (refusal UnknownTextCommand text_code 0 0)) text_commands b
 
--- row 8: a byte of the text lies in 0x20 to 0x7E
+-- the answer to a yes or no: row 8 for no
+abbrev pub told : Bool → Guard
+told shown = require shown (refusal UnprintableText text_code 0 0)
+
+-- a byte of the text lies in 0x20 to 0x7E
 abbrev pub printable_at : List ℕ → ℕ → Guard
-printable_at s i = require (leb 0x20 (byte_at s i) && leb (byte_at s i) 0x7E) (refusal UnprintableText text_code 0 0)
+printable_at s i = told (leb 0x20 (byte_at s i) && leb (byte_at s i) 0x7E)
 
 -- each byte, in order
 unfoldable pub printable : List ℕ → Guard

@@ -2,9 +2,8 @@
 #![tactic(auto)]
 
 ghost use Rattle.std.specs.Prelude.{◌≡◌};
-ghost use Rattle.payload_util.specs.Prelude.{refusal, require, fields, tail, write};
-ghost use Rattle.payload_util.specs.declared.Row.TheVariants.{UnprintableText};
-ghost use Rattle.text.specs.Text.{text_code, text_command_byte, read_text_command, printable, text_kind};
+ghost use Rattle.payload_util.specs.Prelude.{fields, tail, write};
+ghost use Rattle.text.specs.Text.{text_command_byte, read_text_command, told, printable, text_kind};
 
 use payload_util::{
     Payload, Record, Refusal, Row, byte_at, put_bytes, put_payload, require, require_at_most,
@@ -107,7 +106,7 @@ impl Text {
     // Whether every byte lies in 0x20 to 0x7E: eight as one word while there are eight, and the rest singly. The words by `position`, since the loop that
     // `all` becomes takes longer.
     fn printable_text(s: &[u8]) -> bool
-        ensures { require result (refusal UnprintableText text_code 0 0) ≡ printable s.now }
+        ensures { told result ≡ printable s.now }
     {
         let (words, rest) = s.as_chunks::<8>();
         let other = words.iter().position(|w| !Self::printable_word(w));
@@ -115,7 +114,7 @@ impl Text {
     }
 
     fn printable_singly(s: &[u8]) -> bool
-        ensures { require result (refusal UnprintableText text_code 0 0) ≡ printable s.now }
+        ensures { told result ≡ printable s.now }
     {
         s.iter().all(|b| matches!(*b, 0x20..=0x7E))
     }
@@ -123,7 +122,7 @@ impl Text {
     // Whether all eight bytes do. No byte of low is above 0x7F, so neither the sum nor the difference carries from a byte into the next one.
     // A byte's top bit is set in over if low has 0x7F there, and in under if low has less than 0x20.
     fn printable_word(s: &[u8; 8]) -> bool
-        ensures { require result (refusal UnprintableText text_code 0 0) ≡ printable s.now }
+        ensures { told result ≡ printable s.now }
     {
         let w = u64::from_le_bytes(*s);
         let low = w & 0x7F7F_7F7F_7F7F_7F7F;

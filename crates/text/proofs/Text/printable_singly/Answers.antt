@@ -3,7 +3,8 @@ use Rattle.std.proofs.Common.{rules, ◌&&◌, leb, ap, ◌∙◌}
 use Rattle.std.proofs.lemmas.Iterator.{YieldsList-from_slice}
 use Rattle.std.proofs.lemmas.Iterator.Search.{all_from_yields_List}
 use borrow.Author.Tests.{tests}
-use Rattle.text.proofs.Marks.{told, singly}
+use Rattle.text.specs.Text.{told}
+use Rattle.text.proofs.Marks.{singly}
 use Rattle.text.proofs.Text.printable_singly.Goals as goal
 
 pub returns : goal.returns

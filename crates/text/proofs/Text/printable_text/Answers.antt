@@ -8,8 +8,8 @@ use Rattle.std.proofs.lemmas.Iterator.{YieldsList-from_slice}
 use Rattle.std.proofs.lemmas.Iterator.Search.{position_from_yields_List}
 use Rattle.std.proofs.lemmas.Iterator.Adapters.{position_from-zero}
 use borrow.Author.Tests.{tests}
-use Rattle.text.specs.Text.{printable}
-use Rattle.text.proofs.Marks.{told, told_is, all_shown, in_words, none_other}
+use Rattle.text.specs.Text.{told, printable}
+use Rattle.text.proofs.Marks.{told_is, all_shown, in_words, none_other}
 use Rattle.text.proofs.Text.printable_text.Goals as goal
 use Rattle.text.proofs.Text.printable_text.Goals.{After-is_none}
 
