@@ -1,6 +1,6 @@
 -- osdp_MFG (0x80), R4.7, §6.22: the vendor's OUI of three bytes, and data.
 use Rattle.std.specs.Prelude.{◌∷◌, drop}
-use Rattle.payload_util.specs.Prelude.{byte_at, at_least, nothing, Outcome, Form, tailed}
+use Rattle.payload_util.specs.Prelude.{byte_at, at_least, nothing, Form, tailed}
 use Rattle.mfg.specs.declared.Mfg.{Mfg}
 use Rattle.payload_util.specs.Refusals.{Pass}
 
