@@ -1,8 +1,8 @@
-use Rattle.std.proofs.Common.{List, ℕ, ap, ◌∙◌}
+use Rattle.std.proofs.Common.{ap, ◌∙◌}
 use Rattle.payload_util.specs.Loss.{keep, only_at}
 use Rattle.payload_util.proofs.Losses.{length_keep}
 use Rattle.payload_util.proofs.Folds.{part_folded}
-use Rattle.biometric.specs.Biometric.{highest_type, highest_format, bio_limits}
+use Rattle.biometric.specs.Biometric.{highest_format, bio_limits}
 use Rattle.biometric.proofs.Laws.{folded_twice}
 use Rattle.biometric.proofs.BioHead.put_folded.Goals as goal
 
