@@ -3,7 +3,8 @@
 use mathlib.Core.Path.{◌≡◌, refl, sym, ap, ◌∙◌}
 use mathlib.Core.Bool.{Bool, true, false, cond}
 use mathlib.Core.List.{List, [], ◌∷◌, ◌++◌}
-use Prim.Native.Nat.{ℕ, suc, ◌+◌, ◌-◌, ◌%◌, ◌≤◌, ◌<◌}
+use Prim.Native.Nat.{ℕ, suc, ◌+◌, ◌-◌, ◌*◌, ◌%◌, ◌≤◌, ◌<◌}
+use native.Mathlib.Nat.{add-mod_right, mod-eq_of_lt}
 use native.Mathlib.Omega.{arith}
 use native.Mathlib.Numerals.{add-one}
 use borrow.Author.Tests.{leb-true, leb-false, lt-ltb, le-leb}
@@ -17,14 +18,12 @@ use Rattle.frame.specs.Frame.{asks_crc, check_over, check_len, check_bytes, chec
 use Rattle.frame.proofs.Laws.{Accepted, long}
 use Rattle.payload_util.specs.Refusals.{Pass}
 
--- a byte put together again from its top part and the rest
-address_back : (t : Bool) (b : ℕ) → leb 128 b ≡ t → b < 256 → b % 128 + cond t 128 0 ≡ b
-address_back true b e h = let k : 128 ≤ b = leb-true 128 b e in omega arith
-address_back false b e h = let k : b < 128 = leb-false 128 b e in omega arith
-
-control_back : (t : Bool) (b : ℕ) → leb 4 b ≡ t → b < 8 → b % 4 + cond t 4 0 ≡ b
-control_back true b e h = let k : 4 ≤ b = leb-true 4 b e in omega arith
-control_back false b e h = let k : b < 4 = leb-false 4 b e in omega arith
+-- a byte put together again from its top bit, which is w, and the rest
+top_back : (t : Bool) (w b : ℕ) → leb w b ≡ t → b < 2 * w → b % w + cond t w 0 ≡ b
+top_back true w b e h =
+    let k : b ≡ b - w + w = omega (arith, leb-true w b e) in
+    omega (arith, k, ap (λ (n : ℕ). n % w) k ∙ add-mod_right (b - w) w ∙ mod-eq_of_lt {m = w} (omega arith))
+top_back false w b e h = omega (arith, mod-eq_of_lt (leb-false w b e))
 
 -- the last byte of a list, and the last two
 last_one : (f : List ℕ) (n : ℕ) → n + 1 ≡ length f → drop n f ≡ byte_at f n ∷ []
@@ -59,7 +58,7 @@ module _ (f : List ℕ) (bytes : Bytes f) (a : Accepted f) where
   head_back : head_bytes (fields_of f) (length f) ≡ take 6 f
   head_back =
       by_head 6 f (take 6) (omega (arith, long f a))
-      (rw (a.begins, address_back _ (byte_at f 1) refl (bytes 1), control_back _ (byte_at f 4) refl a.plain, a.declared, low_byte f 2 3 bytes, high_byte f 2 3 bytes))
+      (rw (a.begins, top_back _ 128 (byte_at f 1) refl (bytes 1), top_back _ 4 (byte_at f 4) refl a.plain, a.declared, low_byte f 2 3 bytes, high_byte f 2 3 bytes))
 
   pub bytes_back : frame_bytes (fields_of f) inside ≡ f
   bytes_back =

@@ -1,16 +1,16 @@
 -- The code bytes of refusals.
 -- Assumes nothing.
-use mathlib.Core.Path.{◌≡◌, refl}
+use mathlib.Core.Path.{◌≡◌, refl, sym, ◌∙◌}
 use mathlib.Core.Bool.{Bool, true, false}
 use mathlib.Core.List.{List}
 use mathlib.Core.Logic.{◌⊎◌, inl, inr}
 use Prim.Native.Nat.{ℕ}
-use native.Mathlib.Omega.{arith}
 use lib.ListN.{length}
 use Rattle.payload_util.specs.Bytes.{byte_at}
 use Rattle.payload_util.specs.Refusals.{require, ◌also◌, Outcome, Guard, refusal}
 use Rattle.payload_util.specs.Guards.{at_least, declared_len, room}
 use Rattle.payload_util.specs.Outcome.{outcome, guard_of}
+use Rattle.payload_util.proofs.Guards.{no_refusal}
 use Rattle.payload_util.specs.Writing.{effect}
 use Rattle.payload_util.specs.declared.Refusal.{Refusal}
 use Rattle.codes.specs.CommandCode.{read_command}
@@ -29,7 +29,7 @@ Each P g = (e : Refusal) → g ≡ Err e → P e
 module _ (P : Refusal → Type 0) where
   by_row : (b : Bool) (x : Refusal) → P x → Each P (require b x)
   unfolding Each
-  by_row true x h e q = let z : ◌≡◌ {A = ℕ} 0 1 = cc in absurd (omega arith)
+  by_row true x h e q = absurd (no_refusal q)
   by_row false x h e q = let s : x ≡ e = cc in rw (← s) h
 
   by_both : (g h : Guard) → Each P g → Each P h → Each P (g also h)
@@ -39,21 +39,21 @@ module _ (P : Refusal → Type 0) where
 
   by_code : {C : Type 0} (o : Outcome C) → ((x : Refusal) → o ≡ Err x → P x) → Each P (guard_of o)
   unfolding Each
-  by_code (Ok c) h e q = let z : ◌≡◌ {A = ℕ} 0 1 = cc in absurd (omega arith)
+  by_code (Ok c) h e q = absurd (no_refusal q)
   by_code (Err x) h e q = let s : x ≡ e = cc in rw (← s) (h x refl)
 
 -- what a code table refuses, it refuses by its row
 command_row : (b : ℕ) (x : Refusal) → read_command b ≡ Err x → x ≡ refusal UnknownCommand b 0 0
 command_row b x q =
     elim (command_one b) [
-      | inl (c, p, u) ↦ let z : ◌≡◌ {A = ℕ} 0 1 = cc in absurd (omega arith)
+      | inl (c, p, u) ↦ absurd (no_refusal (sym p ∙ q))
       | inr (p, u) ↦ cc
     ]
 
 reply_row : (b : ℕ) (x : Refusal) → read_reply b ≡ Err x → x ≡ refusal UnknownReply b 0 0
 reply_row b x q =
     elim (reply_one b) [
-      | inl (c, p, u) ↦ let z : ◌≡◌ {A = ℕ} 0 1 = cc in absurd (omega arith)
+      | inl (c, p, u) ↦ absurd (no_refusal (sym p ∙ q))
       | inr (p, u) ↦ cc
     ]
 
@@ -80,11 +80,11 @@ module _ (r : Frame) (n given : ℕ) where
 
 -- a refusal is that of the checks
 refuses_is : {A : Type 0} (g : Guard) (a : A) (e : Refusal) → outcome g a ≡ Err e → g ≡ Err e
-refuses_is (Ok _) a e q = let z : ◌≡◌ {A = ℕ} 0 1 = cc in absurd (omega arith)
+refuses_is (Ok _) a e q = absurd (no_refusal q)
 refuses_is (Err x) a e q = cc
 
 not_written_is : (g : Guard) (bs out : List ℕ) (e : Refusal) → (effect g bs out).0 ≡ Err e → g ≡ Err e
-not_written_is (Ok _) bs out e q = let z : ◌≡◌ {A = ℕ} 0 1 = cc in absurd (omega arith)
+not_written_is (Ok _) bs out e q = absurd (no_refusal q)
 not_written_is (Err x) bs out e q = cc
 
 pub code_bytes : CodeBytes

@@ -4,6 +4,7 @@ use mathlib.Core.Path.{◌≡◌, refl, sym, ap, ◌∙◌}
 use mathlib.Core.Bool.{Bool, true, false, cond}
 use mathlib.Core.List.{List, [], ◌∷◌, ◌++◌}
 use Prim.Native.Nat.{ℕ, ◌+◌, ◌-◌, ◌*◌, ◌/◌, ◌%◌, ◌<◌}
+use native.Mathlib.Nat.{add-mod_right, mod-eq_of_lt}
 use native.Mathlib.Omega.{arith}
 use borrow.Author.Tests.{le-leb, lt-leb}
 use lib.Dec.{leb}
@@ -42,24 +43,23 @@ len_check : (crc : Bool) (s : List ℕ) → length (check_bytes crc s) ≡ check
 len_check true s = refl
 len_check false s = refl
 
--- the top part of a byte put in and taken out
-top_in : (t : Bool) (a : ℕ) → a < 128 → (leb 128 (a + cond t 128 0) ≡ t) × ((a + cond t 128 0) % 128 ≡ a)
-top_in true a h = (le-leb 128 (a + 128) (omega arith), omega arith)
-top_in false a h = (lt-leb 128 (a + 0) (omega arith), omega arith)
+-- the top bit of a byte, which is w, put in and taken out
+abbrev InTop : Bool → ℕ → ℕ → Type 0
+InTop t w a = (leb w (a + cond t w 0) ≡ t) × ((a + cond t w 0) % w ≡ a) × (a + cond t w 0 < 2 * w)
 
-crc_in : (t : Bool) (a : ℕ) → a < 4 → (leb 4 (a + cond t 4 0) ≡ t) × ((a + cond t 4 0) % 4 ≡ a) × (a + cond t 4 0 < 8)
-crc_in true a h = (le-leb 4 (a + 4) (omega arith), omega arith, omega arith)
-crc_in false a h = (lt-leb 4 (a + 0) (omega arith), omega arith, omega arith)
+top_in : (t : Bool) (w a : ℕ) → a < w → InTop t w a
+top_in true w a h = (le-leb w (a + w) (omega arith), add-mod_right a w ∙ mod-eq_of_lt h, omega arith)
+top_in false w a h = (lt-leb w (a + 0) (omega arith), mod-eq_of_lt (omega arith) ∙ omega arith, omega arith)
 
 module _ (r : Frame) (p : List ℕ) (e : refuse_frame r (frame_len r p) ≡ Pass) where
   abbrev w : Writable r (frame_len r p)
   w = writable r (frame_len r p) e
 
-  abbrev top : (leb 128 (r.address + cond r.reply 128 0) ≡ r.reply) × ((r.address + cond r.reply 128 0) % 128 ≡ r.address)
-  top = top_in r.reply r.address w.address
+  abbrev top : InTop r.reply 128 r.address
+  top = top_in r.reply 128 r.address w.address
 
-  abbrev ctl : (leb 4 (r.sequence + cond r.crc 4 0) ≡ r.crc) × ((r.sequence + cond r.crc 4 0) % 4 ≡ r.sequence) × (r.sequence + cond r.crc 4 0 < 8)
-  ctl = crc_in r.crc r.sequence w.sequence
+  abbrev ctl : InTop r.crc 4 r.sequence
+  ctl = top_in r.crc 4 r.sequence w.sequence
 
   abbrev body : List ℕ
   body = body_bytes r p
