@@ -17,18 +17,16 @@ use Rattle.payload_util.proofs.Forms.{tailed_law}
 use Rattle.text.specs.Text.{text_code, text_command_byte, text_commands, read_text_command, printable, text_shape, text_kind}
 use Rattle.text.specs.declared.Text.{Text}
 use Rattle.text.specs.declared.TextCommand.{TextCommand}
-use Rattle.text.specs.declared.TextCommand.TheVariants.{PermanentNoWrap, PermanentWrap, TemporaryNoWrap, TemporaryWrap}
+use Rattle.text.specs.declared.TextCommand.TheVariants.{PermanentNoWrap}
 use Rattle.std.specs.Prelude.{Ok}
 use Rattle.payload_util.specs.Refusals.{Pass, refusal}
 use Rattle.payload_util.specs.declared.Row.TheVariants.{UnknownTextCommand}
 
--- a command's byte reads back as the command
+-- a command's byte reads back as the command; `other` is each other command
 pub text_command_back : (c : TextCommand) → read_text_command (text_command_byte c) ≡ Ok c
 unfolding read_text_command
 text_command_back PermanentNoWrap = refl
-text_command_back PermanentWrap = refl
-text_command_back TemporaryNoWrap = refl
-text_command_back TemporaryWrap = refl
+text_command_back other = refl
 
 -- a byte that reads as a command is that command's byte
 pub text_command_exact : (b : ℕ) (c : TextCommand) → read_text_command b ≡ Ok c → text_command_byte c ≡ b
