@@ -57,19 +57,11 @@ len_pos false = omega arith
 pub long : (f : List ℕ) → Accepted f → 7 ≤ length f
 long f a = omega (arith, a.room, len_pos (asks_crc f))
 
-pub checked_long : (f : List ℕ) → check_frame f ≡ Pass → 7 ≤ length f
-checked_long f e = long f (accepted f e)
-
 -- the checks say no more
 pub accepts : (f : List ℕ) → Accepted f → check_frame f ≡ Pass
 unfolding check_frame front control right_check declared_len
 accepts f a =
     simp (pass_least 7 0 f (long f a), eq-eqb _ _ a.begins, le-leb _ _ a.short, eq-eqb _ _ a.declared, lt-ltb _ _ a.plain, pass_least _ 0 f a.room, eq-eqb _ _ a.right, a.known)
-
--- the front alone
-pub front_long : (f : List ℕ) → front f ≡ Pass → 7 ≤ length f
-unfolding front
-front_long f e = least_pass 7 0 f (also_pass _ _ e).0
 
 pub record Writable (r : Frame) (len : ℕ) : Type 0 where
   pub address : r.address < 128

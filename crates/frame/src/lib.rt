@@ -6,7 +6,7 @@ ghost use Rattle.frame.specs.Frame.{known_code, check_len, check_over, right_che
 
 use codes::{CommandCode, ReplyCode};
 use payload_util::{
-    Refusal, Row, put_parts, require, require_at_least, require_declared_len, u16_at,
+    Refusal, Row, byte_at, put_parts, require, require_at_least, require_declared_len, u16_at,
 };
 
 // What a frame says beside its payload.
@@ -64,10 +64,9 @@ fn check_over(crc: bool, head: &[u8], payload: &[u8]) -> u16
 // Row 21.
 #[tactic(auto, using(crate::proofs::Laws::check_alone), unfolding(crate::specs::Frame::right_check))]
 fn require_check(f: &[u8], crc: bool) -> Result<(), Refusal>
-    requires { 2 ≤ length f.now }
     ensures { result ≡ right_check crc f.now }
 {
-    let end = f.len() - check_len(crc);
+    let end = f.len().saturating_sub(check_len(crc));
     let sent = u16_at(f, end);
     require(
         sent == check_over(crc, &f[..end], &[]),
@@ -87,13 +86,22 @@ impl Frame {
 
     pub const CRC_START: u16 = 0x1D0F;
 
+    // Set in the address of a reply; the rest is the address.
+    const REPLY_BIT: u8 = 0x80;
+
+    // Set in a control byte that asks for a CRC; what is below it is the sequence.
+    const CRC_BIT: u8 = 0x04;
+
+    // Set in a control byte that announces a security block.
+    const SECURE_BIT: u8 = 0x08;
+
     // Rows 4, 20, 22, 6.
-    #[tactic(auto, using(payload_util::proofs::Guards::least_pass), unfolding(crate::specs::Frame::front))]
+    #[tactic(auto, unfolding(crate::specs::Frame::front))]
     fn front(f: &[u8]) -> Result<(), Refusal>
         ensures { result ≡ front f.now }
     {
         require_at_least(f, 7, 0)?;
-        require(f[0] == Self::SOM, Refusal::new(Row::NotAFrame, 0))?;
+        require(byte_at(f, 0) == Self::SOM, Refusal::new(Row::NotAFrame, 0))?;
         require(f.len() <= Self::LONGEST, Refusal::new(Row::FrameTooLong, 0))?;
         require_declared_len(f, u16_at(f, 2) as usize, 0)
     }
@@ -101,39 +109,38 @@ impl Frame {
     // Rows 20, 4, 21.
     #[tactic(auto, unfolding(crate::specs::Frame::control))]
     fn control(f: &[u8]) -> Result<(), Refusal>
-        requires { 7 ≤ length f.now }
         ensures { result ≡ control f.now }
     {
-        require(f[4] < 8, Refusal::new(Row::NotAFrame, 0))?;
-        let crc = 4 <= f[4];
+        let control = byte_at(f, 4);
+        require(control < Self::SECURE_BIT, Refusal::new(Row::NotAFrame, 0))?;
+        let crc = Self::CRC_BIT <= control;
         require_at_least(f, Self::HEAD + check_len(crc), 0)?;
         require_check(f, crc)
     }
 
     // All refusals before the code's have code byte 0.
-    #[tactic(auto, using(crate::proofs::Laws::front_long), unfolding(crate::specs::Frame::check_frame))]
+    #[tactic(auto, unfolding(crate::specs::Frame::check_frame))]
     pub fn check(f: &[u8]) -> Result<(), Refusal>
         ensures { result ≡ check_frame f.now }
     {
         Self::front(f)?;
         Self::control(f)?;
-        require_code(128 <= f[1], f[5])
+        require_code(Self::REPLY_BIT <= byte_at(f, 1), byte_at(f, 5))
     }
 
     fn fields(f: &[u8]) -> Frame
-        requires { 7 ≤ length f.now }
         ensures { result ≡ fields_of f.now }
     {
+        let [address, control] = [byte_at(f, 1), byte_at(f, 4)];
         Frame {
-            address: f[1] % 128,
-            reply: 128 <= f[1],
-            sequence: f[4] % 4,
-            crc: 4 <= f[4],
-            code: f[5],
+            address: address % Self::REPLY_BIT,
+            reply: Self::REPLY_BIT <= address,
+            sequence: control % Self::CRC_BIT,
+            crc: Self::CRC_BIT <= control,
+            code: byte_at(f, 5),
         }
     }
 
-    #[tactic(auto, using(crate::proofs::Laws::checked_long))]
     pub fn decode(f: &[u8]) -> Result<Frame, Refusal>
         ensures { result ≡ read_frame f.now }
     {
@@ -145,21 +152,15 @@ impl Frame {
     pub fn payload_in(self, f: &[u8]) -> &[u8]
         ensures { result.now ≡ payload_in self f.now }
     {
-        let last = check_len(self.crc);
-        if f.len() < Self::HEAD + last {
-            return &f[..0];
-        }
-        &f[Self::HEAD..f.len() - last]
+        let end = f.len().saturating_sub(check_len(self.crc));
+        f.get(Self::HEAD..end).unwrap_or(&[])
     }
 
     // The payload; empty if reading refuses. It checks the whole frame again: payload_in does not.
     pub fn payload(f: &[u8]) -> &[u8]
         ensures { result.now ≡ frame_payload f.now }
     {
-        match Self::decode(f) {
-            Ok(frame) => frame.payload_in(f),
-            Err(_) => &f[..0],
-        }
+        Self::decode(f).map_or(&[], |frame| frame.payload_in(f))
     }
 
     // Rows 20, 1 or 2, 22, for a frame of so many bytes.
@@ -167,8 +168,9 @@ impl Frame {
     fn refuse(self, len: usize) -> Result<(), Refusal>
         ensures { result ≡ refuse_frame self len }
     {
-        require(self.address < 128, Refusal::new(Row::NotAFrame, self.code))?;
-        require(self.sequence < 4, Refusal::new(Row::NotAFrame, self.code))?;
+        let no_frame = Refusal::new(Row::NotAFrame, self.code);
+        require(self.address < Self::REPLY_BIT, no_frame)?;
+        require(self.sequence < Self::CRC_BIT, no_frame)?;
         require_code(self.reply, self.code)?;
         require(
             len <= Self::LONGEST,
@@ -184,10 +186,10 @@ impl Frame {
         let [low, high] = len.to_le_bytes();
         [
             Self::SOM,
-            self.address + value_if(self.reply, 128),
+            self.address + value_if(self.reply, Self::REPLY_BIT),
             low,
             high,
-            self.sequence + value_if(self.crc, 4),
+            self.sequence + value_if(self.crc, Self::CRC_BIT),
             self.code,
         ]
     }
