@@ -78,7 +78,7 @@ impl Raw {
     }
 
     // Writes a byte, 0 or 1, for each bit up to the count, highest bit first. If the bytes have fewer bits than the count, writes those.
-    #[tactic(auto, using(payload_util::proofs::Guards::room_pass))]
+    #[tactic(auto, using(payload_util::proofs::Guards::passed, payload_util::proofs::Guards::room_pass))]
     pub fn iter_bits(self, bits: &[u8], out: &mut [u8]) -> Result<usize, Refusal>
         ensures { (result, out.new) ≡ write_bits self bits.now out.old }
     {
@@ -96,7 +96,8 @@ fn bits_given(bit_count: u16, bytes: usize) -> usize
     (bit_count as usize).min(bytes.saturating_mul(8))
 }
 
-// Writes bits until the buffer is full.
+// Writes bits until the buffer is full: byte by byte and, inside, bit by bit, the form that docs/REQUIREMENTS.md asks for (R10.4). By index, since
+// of what `iter_mut().enumerate()` lends a proof knows no element.
 fn fill_bits(bits: &[u8], out: &mut [u8])
     requires { length out.old ≤ 8 * length bits.now }
     ensures { out.new ≡ take (length out.old) (all_bits bits.now) }

@@ -1,4 +1,4 @@
-use Rattle.std.proofs.Common.{ℕ, rules, take, sym, ap, arith, length-take-le}
+use Rattle.std.proofs.Common.{ℕ, rules, take, sym, ap, length-take-le}
 use Rattle.payload_util.proofs.Parts.{put_refused}
 use Rattle.raw_card.specs.Raw.{all_bits}
 use Rattle.payload_util.proofs.Guards.{passed, refused, room_pass}
@@ -19,11 +19,6 @@ pub slice_bounds-fill_bits-end-2 : goal.slice_bounds-fill_bits-end-2
 slice_bounds-fill_bits-end-2 c =
     let fits = room_pass _ _ _ (passed c.require_room.ensures c.in_ok-require_room.was) in
     sym (length-take-le c.bits_given-n.result c.args.out.now fits)
-
-pub fill_bits-requires : goal.fill_bits-requires
-fill_bits-requires c =
-    let fits = room_pass _ _ _ (passed c.require_room.ensures c.in_ok-require_room.was) in
-    omega (arith, c.bits_given-n.ensures, length-take-le c.bits_given-n.result c.args.out.now fits)
 
 pub returns : goal.returns
 returns c =
