@@ -13,7 +13,7 @@ use lib.Seq.{take_all, drop-cons, drop-drop}
 use Rattle.payload_util.specs.Bytes.{Bytes}
 use Rattle.payload_util.specs.Refusals.{◌also◌, in_order, Guard}
 use Rattle.payload_util.proofs.Below.{all, below}
-use Rattle.text.specs.Text.{told, printable_at, printable, bytes_of, KnownWord}
+use Rattle.text.specs.Text.{shown, told, printable_at, printable, bytes_of, KnownWord}
 use Rattle.std.specs.Prelude.{Ok, Err, Some}
 use Rattle.std.specs.List.{list_all, position_from}
 use Rattle.std.specs.Option.{is_some}
@@ -27,14 +27,6 @@ abbrev pub passes : Guard → Bool
 passes (Ok _) = true
 passes (Err e) = false
 
--- whether a byte is printable
-abbrev shown : ℕ → Bool
-shown b = passes (printable_at (b ∷ []) 0)
-
-told_back : (t : Bool) → told (passes (told t)) ≡ told t
-told_back true = refl
-told_back false = refl
-
 later : (b : ℕ) (s : List ℕ) (i n : ℕ) → in_order (printable_at (b ∷ s)) (suc i) n ≡ in_order (printable_at s) i n
 unfolding in_order
 later b s i zero = refl
@@ -42,7 +34,7 @@ later b s i (suc n) = ap (λ (g : Guard). printable_at s i also g) (later b s (s
 
 first_byte : (b : ℕ) (s : List ℕ) → printable (b ∷ s) ≡ (told (shown b) also printable s)
 unfolding printable in_order
-first_byte b s = rw (later b s 0 (length s)) (ap (λ (g : Guard). g also printable s) (sym (told_back (leb 0x20 b && leb b 0x7E))))
+first_byte b s = ap (λ (g : Guard). told (shown b) also g) (later b s 0 (length s))
 
 told_also : (t : Bool) (g h : Guard) → (told t also g also h) ≡ ((told t also g) also h)
 told_also true g h = refl
@@ -193,14 +185,18 @@ both true b = refl
 both false b = refl
 
 -- over single bytes
-pub singly : (s : List ℕ) → told (list_all (λ b. leb 0x20 b && leb b 0x7E) s) ≡ printable s
+pub singly : (s : List ℕ) → told (list_all shown s) ≡ printable s
 unfolding printable in_order
 singly [] = refl
 singly (b ∷ s) =
-    rw (first_byte b s, ← singly s, told_back (leb 0x20 b && leb b 0x7E)) (both (leb 0x20 b && leb b 0x7E) (list_all (λ c. leb 0x20 c && leb c 0x7E) s))
+    rw (first_byte b s, ← singly s) (both (shown b) (list_all shown s))
 
 told_shown : (s : List ℕ) → told (all_shown s) ≡ printable s
-told_shown s = rw (← singly s) (told_back (list_all (λ b. leb 0x20 b && leb b 0x7E) s))
+told_shown s = rw (← singly s) (told_back (list_all shown s))
+  where
+    told_back : (t : Bool) → told (passes (told t)) ≡ told t
+    told_back true = refl
+    told_back false = refl
 
 words_told : (n : ℕ) (s : List ℕ) → (told (list_all all_shown (first_chunks 8 n s)) also printable (drop (n * 8) s)) ≡ printable s
 words_told zero s = refl

@@ -24,13 +24,16 @@ text_commands = PermanentNoWrap ∷ PermanentWrap ∷ TemporaryNoWrap ∷ Tempor
 unfoldable pub read_text_command : ℕ → Outcome TextCommand
 read_text_command b = named text_command_byte Ok (Err (refusal UnknownTextCommand text_code 0 0)) text_commands b
 
+-- a byte of a text lies in 0x20 to 0x7E
+abbrev pub shown : ℕ → Bool
+shown b = leb 0x20 b && leb b 0x7E
+
 -- the answer to a yes or no: row 8 for no
 abbrev pub told : Bool → Guard
-told shown = require shown (refusal UnprintableText text_code 0 0)
+told t = require t (refusal UnprintableText text_code 0 0)
 
--- a byte of the text lies in 0x20 to 0x7E
 abbrev pub printable_at : List ℕ → ℕ → Guard
-printable_at s i = told (leb 0x20 (byte_at s i) && leb (byte_at s i) 0x7E)
+printable_at s i = told (shown (byte_at s i))
 
 -- each byte, in order
 unfoldable pub printable : List ℕ → Guard
