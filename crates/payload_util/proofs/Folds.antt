@@ -10,6 +10,7 @@ use lib.ListN.{length, get_or, set, take, drop, length-append}
 use Rattle.payload_util.specs.Guards.{room}
 use Rattle.payload_util.specs.Loss.{Keep, up_to, kept, keep, only_at, times}
 use Rattle.payload_util.specs.Writing.{Effect, effect, put}
+use Rattle.payload_util.proofs.Guards.{no_refusal}
 use Rattle.std.specs.Prelude.{Ok, Err}
 use Rattle.payload_util.specs.Refusals.{Outcome, Guard}
 
@@ -67,6 +68,4 @@ part_folded code f p out {w} {e} {q} {n} long is h by = go (room code (length p)
         let back : drop n e ≡ drop (length p) out = ap (drop n) there ∙ drop_at p (drop (length p) out) n (sym size) in
         let made : q ≡ f p = by ∙ ap f front in
         rw (made, back, size) (simp (long p, fits))
-    go (Err x) stop i =
-        let z : Err x ≡ Ok n = sym (ap (λ (y : Effect). y.0) i) ∙ h in
-        let y : ◌≡◌ {A = ℕ} 0 1 = cc in absurd (omega arith)
+    go (Err x) stop i = absurd (no_refusal (sym h ∙ ap (λ (y : Effect). y.0) i))

@@ -10,7 +10,7 @@ use Rattle.payload_util.specs.Bytes.{Bytes, each, flat}
 use Rattle.payload_util.specs.Guards.{head_and_tail, tail_len, not_empty}
 use Rattle.payload_util.specs.Loss.{without}
 use Rattle.payload_util.specs.Form.{Fixed, Tailed, Listed, fixed, tailed, listed, check}
-use Rattle.payload_util.proofs.Guards.{head_and_tail_pass, pass_head_and_tail, tail_len_pass, pass_tail_len}
+use Rattle.payload_util.proofs.Guards.{no_refusal, head_and_tail_pass, pass_head_and_tail, tail_len_pass, pass_tail_len}
 use Rattle.payload_util.proofs.Each.{length_each, length_flat, each_back}
 use Rattle.payload_util.specs.Law.{Law}
 use Rattle.payload_util.specs.Refusals.{Pass}
@@ -80,7 +80,7 @@ not_empty_lem code [] h = absurd (omega arith)
 not_empty_lem code (r ∷ rs) h = refl
 
 some_records : {A : Type 0} (code : ℕ) (rs : List A) → not_empty code rs ≡ Pass → zero < length rs
-some_records code [] h = let z : ◌≡◌ {A = ℕ} 0 1 = cc in absurd (omega arith)
+some_records code [] h = absurd (no_refusal (sym h))
 some_records code (r ∷ rs) h = omega arith
 
 -- each record has its bytes, and is read back from them
@@ -101,7 +101,7 @@ module _ {A : Type 0} {k : Listed A} where
     back = records;
     restored = λ rs x. again rs;
     steady = steady;
-    readable = λ rs w. readable rs (some_records k.code rs w) (length_flat k.fields k.bytes k.width size restores rs);
+    readable = λ rs w. readable rs (some_records k.code rs w) (length_flat k.bytes k.width size rs);
     reread = λ rs w u. again rs;
   }
     where
@@ -111,5 +111,5 @@ module _ {A : Type 0} {k : Listed A} where
       again : (rs : List A) → records (flat k.bytes rs) ≡ rs
       again rs =
           ap (λ (n : ℕ). each k.fields k.width n (flat k.bytes rs))
-          (ap (λ (n : ℕ). n / k.width) (length_flat k.fields k.bytes k.width size restores rs) ∙ mul-div_cancel (length rs) pos)
-          ∙ each_back k.fields k.bytes k.width size restores rs
+          (ap (λ (n : ℕ). n / k.width) (length_flat k.bytes k.width size rs) ∙ mul-div_cancel (length rs) pos)
+          ∙ each_back k.bytes k.width size k.fields restores rs

@@ -9,6 +9,7 @@ use native.Mathlib.Omega.{arith}
 use borrow.Author.Tests.{leb-true, leb-false, eqb-true, ltb-true, le-leb, lt-leb, lt-ltb, eq-eqb}
 use lib.ListN.{length, drop, length-drop}
 use lib.Dec.{leb, ltb, eqb}
+use Rattle.std.proofs.lemmas.Bool.{and_parts}
 use Rattle.payload_util.specs.Refusals.{require, ◌also◌, Outcome, Guard, Pass}
 use Rattle.payload_util.specs.Outcome.{outcome, guard_of}
 use Rattle.payload_util.specs.Guards.{exact_len, at_least, blocks_from, positive_multiple_of, declared_len, head_and_tail, at_most, tail_len, room, present}
@@ -24,10 +25,6 @@ no_refusal h = let z : ◌≡◌ {A = ℕ} 0 1 = cc in omega arith
 pub check_pass : (b : Bool) (e : Refusal) → require b e ≡ Pass → b ≡ true
 check_pass true e h = refl
 check_pass false e h = cc
-
-both : (a b : Bool) → (a && b) ≡ true → (a ≡ true) × (b ≡ true)
-both true b h = (refl, h)
-both false b h = let z : false ≡ true = h in (z, cc)
 
 pub also_pass : (g h : Guard) → (g also h) ≡ Pass → (g ≡ Pass) × (h ≡ Pass)
 also_pass (Ok _) h e = (refl, e)
@@ -92,8 +89,8 @@ module _ (n code : ℕ) (p : List ℕ) where
   pub multiple_pass : positive_multiple_of n code p ≡ Pass → (length p ≡ length p / n * n) × (zero < length p / n)
   unfolding blocks_from
   multiple_pass e =
-      let (some-blocks, whole) = both (ltb 0 n && leb 1 (length p)) (eqb (length p % n) 0) (check_pass (ltb 0 n && leb 1 (length p) && eqb (length p % n) 0) _ e) in
-      let filled = (both (ltb 0 n) (leb 1 (length p)) some-blocks).1 in
+      let (some-blocks, whole) = and_parts (ltb 0 n && leb 1 (length p)) (eqb (length p % n) 0) (check_pass (ltb 0 n && leb 1 (length p) && eqb (length p % n) 0) _ e) in
+      let filled = (and_parts (ltb 0 n) (leb 1 (length p)) some-blocks).1 in
       let r : length p % n ≡ 0 = eqb-true _ _ whole in
       let l : length p ≡ length p / n * n = sym (div-add-mod' (length p) n) ∙ omega arith in
       (l, some (length p / n) l (leb-true _ _ filled))

@@ -1,4 +1,4 @@
--- Parts of a list: up to the end, a copy part by part, a head and a tail put into a buffer, and a payload's first bytes one by one.
+-- Parts of a list: a copy part by part, a head and a tail put into a buffer, and a payload's first bytes one by one.
 -- Assumes nothing.
 use mathlib.Core.Path.{◌≡◌, sym, ap, ◌∙◌}
 use mathlib.Core.List.{List, [], ◌∷◌, ◌++◌}
@@ -12,10 +12,6 @@ use Rattle.payload_util.specs.Writing.{put}
 use Rattle.std.specs.Prelude.{Ok, Err}
 use Rattle.payload_util.specs.Refusals.{Pass}
 use Rattle.payload_util.specs.declared.Refusal.{Refusal}
-
--- a part `&p[at..]`
-pub part_to_end : (p : List ℕ) (at : ℕ) → take (length p - at) (drop at p) ≡ drop at p
-part_to_end p at = take_all (length p - at) (drop at p) (simp length-drop (omega arith))
 
 -- d is the buffer with the head, and e is d with the tail after it
 pub two_parts : (code : ℕ) (h t out d e : List ℕ) → room code (length h + length t) (length out) ≡ Pass

@@ -15,7 +15,7 @@ use Rattle.payload_util.specs.Writing.{Effect, effect, room_last, put_checked, L
 use Rattle.payload_util.specs.Loss.{without}
 use Rattle.payload_util.specs.Form.{Listed, Form, fixed, tailed, listed, code, loss, check, Record, whole, refuse, bytes, read, written, normalise, Accepted, ReadsAs, WritesAs, LosesOnly}
 use Rattle.payload_util.specs.Law.{Law}
-use Rattle.payload_util.proofs.Guards.{also_pass, gives_pass, pass_present, room_pass}
+use Rattle.payload_util.proofs.Guards.{no_refusal, also_pass, gives_pass, pass_present, room_pass}
 use Rattle.payload_util.proofs.Each.{length_each, each_at}
 use Rattle.std.specs.Prelude.{Ok, Err}
 
@@ -83,14 +83,14 @@ wrote g code bs out n e = go g (room code (length bs) (length out)) e
   where
     go : (g r : Guard) → (effect (room_last g r) bs out).0 ≡ Ok n → (take n (effect (room_last g r) bs out).1 ≡ bs) × (g ≡ Pass)
     go (Ok _) (Ok _) k = (take_at bs (drop (length bs) out) n (cc), refl)
-    go (Ok _) (Err x) k = let z : ◌≡◌ {A = ℕ} 0 1 = cc in absurd (omega arith)
-    go (Err x) (Ok _) k = let z : ◌≡◌ {A = ℕ} 0 1 = cc in absurd (omega arith)
-    go (Err x) (Err y) k = let z : ◌≡◌ {A = ℕ} 0 1 = cc in absurd (omega arith)
+    go (Ok _) (Err x) k = absurd (no_refusal (sym k))
+    go (Err x) (Ok _) k = absurd (no_refusal (sym k))
+    go (Err x) (Err y) k = absurd (no_refusal (sym k))
 
 -- and the count is theirs
 pub counted : (g : Guard) (bs out : List ℕ) (n : ℕ) → (effect g bs out).0 ≡ Ok n → n ≡ length bs
 counted (Ok _) bs out n e = cc
-counted (Err x) bs out n e = let z : ◌≡◌ {A = ℕ} 0 1 = cc in absurd (omega arith)
+counted (Err x) bs out n e = absurd (no_refusal (sym e))
 
 -- ---- what writing leaves of the buffer
 
