@@ -2,11 +2,11 @@
 -- Assumes nothing.
 use mathlib.Core.Path.{◌≡◌, sym, ap, ◌∙◌}
 use mathlib.Core.List.{List, [], ◌∷◌, ◌++◌}
-use Prim.Native.Nat.{ℕ, zero, suc, ◌+◌, ◌-◌, ◌≤◌}
+use Prim.Native.Nat.{ℕ, zero, suc, ◌+◌, ◌≤◌}
 use native.Mathlib.Nat.{add-zero, zero-add}
 use native.Mathlib.Omega.{arith}
-use lib.ListN.{length, get_or, take, drop, length-append, length-drop, drop_of_length-le}
-use lib.Seq.{paste, take_all, take-length, take-append_seam, drop-append-add, drop-cons, drop-drop}
+use lib.ListN.{length, get_or, drop, length-append, drop_of_length-le}
+use lib.Seq.{paste, take-length, take-append_seam, drop-append-add, drop-cons, drop-drop}
 use Rattle.payload_util.specs.Guards.{room}
 use Rattle.payload_util.specs.Writing.{put}
 use Rattle.std.specs.Prelude.{Ok, Err}

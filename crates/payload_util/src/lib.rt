@@ -221,7 +221,7 @@ pub fn require_present(index: usize, count: usize, code: u8) -> Result<(), Refus
     )
 }
 
-// The row with this number if the byte at the offset is above the highest.
+// Refuses by this row if the byte at the offset is above the highest.
 pub fn require_limit(
     payload: &[u8],
     offset: usize,
@@ -266,10 +266,7 @@ pub fn tail_from(payload: &[u8], offset: usize) -> &[u8]
 pub fn tail_where(checked: Result<(), Refusal>, payload: &[u8], offset: usize) -> &[u8]
     ensures { result.now ≡ tail_where checked (drop offset payload.now) }
 {
-    match checked {
-        Ok(()) => tail_from(payload, offset),
-        Err(_) => &payload[..0],
-    }
+    checked.map_or(&[], |()| tail_from(payload, offset))
 }
 
 // The byte at an offset, and the numbers of two and of four bytes there, low byte first; a byte past the end counts as 0.
@@ -320,6 +317,7 @@ fn copy_at(src: &[u8], out: &mut [u8], offset: usize)
 }
 
 // Writes head and then tail at the front of out, or refuses and leaves out as it is.
+#[tactic(auto, using(crate::proofs::Guards::passed, crate::proofs::Guards::room_pass))]
 pub fn put_bytes(head: &[u8], tail: &[u8], code: u8, out: &mut [u8]) -> Result<usize, Refusal>
     ensures { (result, out.new) ≡ put code (head.now ++ tail.now) out.old }
 {
@@ -331,6 +329,7 @@ pub fn put_bytes(head: &[u8], tail: &[u8], code: u8, out: &mut [u8]) -> Result<u
 }
 
 // Writes three parts as put_bytes writes two.
+#[tactic(auto, using(crate::proofs::Guards::passed, crate::proofs::Guards::room_pass))]
 pub fn put_parts(
     head: &[u8],
     body: &[u8],
@@ -350,6 +349,7 @@ pub fn put_parts(
 }
 
 // Writes a payload as it came, in one copy.
+#[tactic(auto, using(crate::proofs::Guards::passed, crate::proofs::Guards::room_pass))]
 pub fn put_payload(payload: &[u8], code: u8, out: &mut [u8]) -> Result<usize, Refusal>
     ensures { (result, out.new) ≡ put code payload.now out.old }
 {

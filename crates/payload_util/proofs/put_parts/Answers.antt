@@ -19,22 +19,6 @@ returns-in_err-require_room c =
     let p = put_refused c.args.code ((c.args.head.now ++ c.args.body.now) ++ c.args.tail.now) c.args.out.now (omega (arith, l, k)) e in
     search rules
 
-pub copy_at-requires : goal.copy_at-requires
-copy_at-requires c = omega (arith, room_pass _ _ _ (passed (fits (goal.at.copy_at-requires c).After-require_room) c.in_ok-require_room.was))
-
-pub copy_at-requires-2 : goal.copy_at-requires-2
-copy_at-requires-2 c =
-    omega (arith, c.copy_at.auto.out, room_pass _ _ _ (passed (fits (goal.at.copy_at-requires-2 c).After-require_room) c.in_ok-require_room.was))
-
-pub copy_at-requires-3 : goal.copy_at-requires-3
-copy_at-requires-3 c =
-    omega (
-      arith,
-      c.copy_at.auto.out,
-      c.copy_at-2.auto.out,
-      room_pass _ _ _ (passed (fits (goal.at.copy_at-requires-3 c).After-require_room) c.in_ok-require_room.was),
-    )
-
 pub returns : goal.returns
 returns c =
     let a = c.args in
