@@ -5,13 +5,15 @@ use mathlib.Core.List.{List, ◌++◌}
 use Prim.Native.Nat.{ℕ, ◌/◌, ◌<◌}
 use native.Mathlib.Nat.{mod-add-div}
 use native.Mathlib.Omega.{arith}
-use lib.Dec.{eqb, eqb→eq}
+use lib.Dec.{eqb}
+use borrow.Author.Tests.{eqb-true}
+use Rattle.std.proofs.lemmas.Bool.{agree_below_at}
+use mathlib.Core.Bool.{true}
 use lib.ListN.{length, get_or}
 use Rattle.payload_util.specs.Bytes.{Bytes, flat}
 use Rattle.payload_util.specs.Loss.{up_to, kept, keep, times, without}
 use Rattle.payload_util.specs.Guards.{blocks_from}
 use Rattle.payload_util.specs.Form.{loss, check, whole}
-use Rattle.payload_util.proofs.Below.{below}
 use Rattle.payload_util.proofs.Guards.{multiple_pass, pass_multiple}
 use Rattle.payload_util.proofs.Words.{low_byte, high_byte}
 use Rattle.payload_util.proofs.Parts.{by_head}
@@ -40,7 +42,7 @@ color_back White = refl
 -- a byte up to 7 stays, and one above becomes 0
 pub color_kept : (b : ℕ) → b < 256 → color_byte (color_of b) ≡ kept (up_to 7) b
 unfolding color_of
-color_kept b h = eqb→eq _ _ (below (λ k. eqb (color_byte (color_of k)) (kept (up_to 7) k)) 256 tt b h)
+color_kept b h = eqb-true _ _ (agree_below_at (λ k. eqb (color_byte (color_of k)) (kept (up_to 7) k)) (λ k. true) 256 b refl h)
 
 -- a payload's byte up to 7 stays, and one above becomes 0
 color_at : (p : List ℕ) (i : ℕ) → Bytes p → color_byte (color_of (get_or p i 0)) ≡ kept (up_to 7) (get_or p i 0)

@@ -8,14 +8,15 @@ use native.Mathlib.Numerals.{add-one}
 use native.Mathlib.Omega.{arith}
 use lib.ListN.{length, take, drop, get_or, length-append, length-drop, drop_of_length-le}
 use borrow.Author.Tests.{lt-ltb}
+use Rattle.std.proofs.lemmas.List.{take_rest}
 use lib.Seq.{take-suc, take_at, take-length, drop-append-add, drop-drop, length-take-le}
 use Rattle.payload_util.specs.Bytes.{flat}
 use Rattle.payload_util.specs.Refusals.{◌also◌, Outcome, Guard, Pass}
 use Rattle.payload_util.specs.Guards.{room, not_empty}
 use Rattle.payload_util.specs.Writing.{Effect, effect, put, put_checked}
 use Rattle.payload_util.specs.declared.Refusal.{Refusal}
-use Rattle.payload_util.proofs.Guards.{room_pass, pass_room, also_pass}
-use Rattle.payload_util.proofs.Parts.{part_to_end}
+use Rattle.payload_util.proofs.Guards.{no_refusal, room_pass, pass_room, also_pass}
+use Rattle.payload_util.proofs.Each.{length_flat}
 use Rattle.lists.specs.List.{answer, list_answer, put_at}
 use Rattle.std.specs.Prelude.{Ok, Err}
 
@@ -28,7 +29,7 @@ module _ (code at : ℕ) (bytes out e : List ℕ) (r : Outcome ℕ) where
       let l = room_pass code (at + length bytes) (length out) fits in
       let end : length out ≤ at + (length out - at) = omega arith in
       let w : ◌≡◌ {A = Effect} (r, e) (Ok (length bytes), bytes ++ drop (length bytes) (drop at out)) =
-      h ∙ simp (append-nil, part_to_end, pass_room code (length bytes) (length (drop at out)) (simp length-drop (omega arith))) in
+      h ∙ simp (append-nil, take_rest, pass_room code (length bytes) (length (drop at out)) (simp length-drop (omega arith))) in
       ap (λ (x : Effect). (x.0, take at out ++ (x.1 ++ drop (length out - at) (drop at out)))) w
       ∙ simp (fits, drop-drop, drop_of_length-le out end, append-nil)
 
@@ -49,24 +50,20 @@ module _ {X : Type 0} (bytes : X → List ℕ) (size : ℕ) (fixed : (x : X) →
   flat_append (x ∷ a) b =
       ap (λ (l : List ℕ). bytes x ++ l) (flat_append a b) ∙ sym (append_assoc (bytes x) (flat bytes a) (flat bytes b))
 
-  flat_length : (xs : List X) → length (flat bytes xs) ≡ length xs * size
-  flat_length [] = sym (zero-mul size)
-  flat_length (x ∷ xs) = length-append (bytes x) (flat bytes xs) ∙ omega (arith, fixed x, flat_length xs, suc-mul (length xs) size)
-
   -- the guards by the count are the guards by the list
   answer_is : (code : ℕ) (xs : List X) (o : List ℕ)
       → list_answer (length xs) size code (length o)
       ≡ answer (not_empty code xs also room code (length (flat bytes xs)) (length o)) (length xs * size)
   unfolding list_answer
   answer_is code [] o = refl
-  answer_is code (x ∷ xs) o = rw (lt-ltb 0 (suc (length xs)) (omega arith), flat_length (x ∷ xs))
+  answer_is code (x ∷ xs) o = rw (lt-ltb 0 (suc (length xs)) (omega arith), length_flat bytes size fixed (x ∷ xs))
 
   module _ (code : ℕ) (xs : List X) (o : List ℕ) where
     pub state_start : state bytes size xs o 0 ≡ o
     state_start = ap (λ (n : ℕ). drop n o) (zero-mul size)
 
     front : (k : ℕ) → k ≤ length xs → length (flat bytes (take k xs)) ≡ k * size
-    front k h = flat_length (take k xs) ∙ ap (λ (n : ℕ). n * size) (length-take-le k xs h)
+    front k h = length_flat bytes size fixed (take k xs) ∙ ap (λ (n : ℕ). n * size) (length-take-le k xs h)
 
     state_length : length xs * size ≤ length o → (k : ℕ) → k ≤ length xs → length (state bytes size xs o k) ≡ length o
     state_length f k h =
@@ -119,23 +116,23 @@ module _ {X : Type 0} (bytes : X → List ℕ) (size : ℕ) (fixed : (x : X) →
       refused_is {e} p = go guard known
         where
           go : (g : Guard) → a ≡ answer g (length xs * size) → ◌≡◌ {A = Effect} (Err e, o) (effect g (flat bytes xs) o)
-          go (Ok _) r = let z : ◌≡◌ {A = ℕ} 0 1 = cc in absurd (omega arith)
+          go (Ok _) r = absurd (no_refusal (sym r ∙ p))
           go (Err x) r = ap (λ (y : Outcome ℕ). (y, o)) (sym p ∙ r)
 
       pub records_fit : {n : ℕ} → a ≡ Ok n → length xs * size ≤ length o
       records_fit {n} p = go guard refl known
         where
           go : (g : Guard) → guard ≡ g → a ≡ answer g (length xs * size) → length xs * size ≤ length o
-          go (Ok _) e r = omega (arith, flat_length xs, room_pass code (length (flat bytes xs)) (length o) (also_pass (not_empty code xs) _ e).1)
-          go (Err x) e r = let z : ◌≡◌ {A = ℕ} 0 1 = cc in absurd (omega arith)
+          go (Ok _) e r = omega (arith, length_flat bytes size fixed xs, room_pass code (length (flat bytes xs)) (length o) (also_pass (not_empty code xs) _ e).1)
+          go (Err x) e r = absurd (no_refusal (sym p ∙ r))
 
       pub written_is : {n : ℕ} {now : List ℕ} (k : ℕ) → a ≡ Ok n → now ≡ state bytes size xs o k → k ≡ length xs
           → ◌≡◌ {A = Effect} (Ok n, now) (put_checked (not_empty code xs) code (flat bytes xs) o)
       written_is {n} {now} k p at all = go guard known
         where
           end : now ≡ flat bytes xs ++ drop (length (flat bytes xs)) o
-          end = at ∙ rw (all, take-length, ← flat_length xs)
+          end = at ∙ rw (all, take-length, ← length_flat bytes size fixed xs)
 
           go : (g : Guard) → a ≡ answer g (length xs * size) → ◌≡◌ {A = Effect} (Ok n, now) (effect g (flat bytes xs) o)
-          go (Ok _) r = ap₂ {C = Effect} (λ y l. (y, l)) (sym p ∙ r ∙ ap Ok (sym (flat_length xs))) end
-          go (Err x) r = let z : ◌≡◌ {A = ℕ} 0 1 = cc in absurd (omega arith)
+          go (Ok _) r = ap₂ {C = Effect} (λ y l. (y, l)) (sym p ∙ r ∙ ap Ok (sym (length_flat bytes size fixed xs))) end
+          go (Err x) r = absurd (no_refusal (sym p ∙ r))

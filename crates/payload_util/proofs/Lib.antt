@@ -1,7 +1,6 @@
 pub mod Guards
 pub mod Parts
 pub mod Table
-pub mod Below
 pub mod InOrder
 pub mod Filled
 pub mod Words

@@ -4,15 +4,14 @@ use mathlib.Core.Bool.{Bool, true, false, not, cond, ◌&&◌}
 use mathlib.Core.List.{List, [], ◌∷◌}
 use Prim.Native.Nat.{ℕ, zero, suc, ◌+◌, ◌-◌, ◌*◌, ◌/◌, ◌%◌, ◌≤◌, ◌<◌}
 use native.Mathlib.Omega.{arith}
-use borrow.Author.Tests.{eq-eqb, ne_eqb, eqb-true, eqb-false}
+use borrow.Author.Tests.{eq-eqb, ne_eqb, eqb-true, eqb-false, leb-true, ltb-true}
 use lib.Bits.{bit_and, bit_or, and_block, or_block, and_le_r, or_lt, and_zero_r}
-use lib.Dec.{T, leb, ltb, eqb, eqb→eq, leb→le, ltb→lt}
-use mir.Facts.{and_yes}
+use lib.Dec.{leb, ltb, eqb}
 use lib.ListN.{length, get_or, take, drop}
 use lib.Seq.{take_all, drop-cons, drop-drop}
 use Rattle.payload_util.specs.Bytes.{Bytes}
 use Rattle.payload_util.specs.Refusals.{◌also◌, in_order, Guard}
-use Rattle.payload_util.proofs.Below.{all, below}
+use Rattle.std.proofs.lemmas.Bool.{agree_below, agree_below_at, and_parts}
 use Rattle.text.specs.Text.{shown, told, printable_at, printable, bytes_of, KnownWord}
 use Rattle.std.specs.Prelude.{Ok, Err, Some}
 use Rattle.std.specs.List.{list_all, position_from}
@@ -67,7 +66,7 @@ abbrev fits : ℕ → ℕ → ℕ → Bool
 fits m o u = ltb (m + o) 256 && leb m u
 
 abbrev marked : ℕ → ℕ → ℕ → ℕ → Bool
-marked m o u h = all (λ (b : ℕ). eqb (bad m o u h b) (mark (shown b))) 256
+marked m o u h = agree_below (λ (b : ℕ). eqb (bad m o u h b) (mark (shown b))) (λ b. true) 256
 
 abbrev lane : ℕ → ℕ → ℕ → ℕ → Bool
 lane m o u h = fits m o u && marked m o u h
@@ -77,18 +76,18 @@ abbrev lanes : ℕ → ℕ → ℕ → ℕ → ℕ → Bool
 lanes zero m o u h = leb m u && eqb h 0
 lanes (suc n) m o u h = lane (m % 256) (o % 256) (u % 256) (h % 256) && lanes n (m / 256) (o / 256) (u / 256) (h / 256)
 
-right : (m o u h : ℕ) → T (lane m o u h) → (m + o < 256) × (m ≤ u) × ((b : ℕ) → b < 256 → bad m o u h b ≡ mark (shown b))
+right : (m o u h : ℕ) → lane m o u h ≡ true → (m + o < 256) × (m ≤ u) × ((b : ℕ) → b < 256 → bad m o u h b ≡ mark (shown b))
 right m o u h t =
-    let (f, a) = and_yes (fits m o u) (marked m o u h) t in
-    let (s, d) = and_yes (ltb (m + o) 256) (leb m u) f in
-    (ltb→lt (m + o) 256 s, leb→le m u d, λ b lt. eqb→eq (bad m o u h b) (mark (shown b)) (below (λ (x : ℕ). eqb (bad m o u h x) (mark (shown x))) 256 a b lt))
+    let (f, a) = and_parts (fits m o u) (marked m o u h) t in
+    let (s, d) = and_parts (ltb (m + o) 256) (leb m u) f in
+    (ltb-true (m + o) 256 s, leb-true m u d, λ b lt. eqb-true (bad m o u h b) (mark (shown b)) (agree_below_at (λ (x : ℕ). eqb (bad m o u h x) (mark (shown x))) (λ x. true) 256 b a lt))
 
-lowest : (n m o u h : ℕ) → T (lanes (suc n) m o u h)
-    → T (lane (m % 256) (o % 256) (u % 256) (h % 256)) × T (lanes n (m / 256) (o / 256) (u / 256) (h / 256))
-lowest n m o u h t = and_yes (lane (m % 256) (o % 256) (u % 256) (h % 256)) (lanes n (m / 256) (o / 256) (u / 256) (h / 256)) t
+lowest : (n m o u h : ℕ) → lanes (suc n) m o u h ≡ true
+    → (lane (m % 256) (o % 256) (u % 256) (h % 256) ≡ true) × (lanes n (m / 256) (o / 256) (u / 256) (h / 256) ≡ true)
+lowest n m o u h t = and_parts (lane (m % 256) (o % 256) (u % 256) (h % 256)) (lanes n (m / 256) (o / 256) (u / 256) (h / 256)) t
 
-lanes_le : (n m o u h : ℕ) → T (lanes n m o u h) → m ≤ u
-lanes_le zero m o u h t = leb→le m u (and_yes (leb m u) (eqb h 0) t).0
+lanes_le : (n m o u h : ℕ) → lanes n m o u h ≡ true → m ≤ u
+lanes_le zero m o u h t = leb-true m u (and_parts (leb m u) (eqb h 0) t).0
 lanes_le (suc n) m o u h t =
     let (one, more) = lowest n m o u h t in
     omega (arith, (right (m % 256) (o % 256) (u % 256) (h % 256) one).1, lanes_le n (m / 256) (o / 256) (u / 256) (h / 256) more)
@@ -134,9 +133,9 @@ joined true false a e = let z : a ≡ 0 → ⊥ = eqb-false a 0 e in ap told (ne
 joined false u a e = ap told (ne_eqb _ _ (λ (h : a * 256 + 128 ≡ 0). omega arith))
 
 -- if the masks are right, the test on a word of n bytes is the check of its bytes
-pub word_test : (n m o u h w : ℕ) → T (lanes n m o u h) → told (eqb (bad m o u h w) 0) ≡ printable (bytes_of n w)
+pub word_test : (n m o u h w : ℕ) → lanes n m o u h ≡ true → told (eqb (bad m o u h w) 0) ≡ printable (bytes_of n w)
 unfolding bytes_of printable in_order
-word_test zero m o u h w t = rw (eqb→eq h 0 (and_yes (leb m u) (eqb h 0) t).1, and_zero_r)
+word_test zero m o u h w t = rw (eqb-true h 0 (and_parts (leb m u) (eqb h 0) t).1, and_zero_r)
 word_test (suc n) m o u h w t =
     let (one, more) = lowest n m o u h t in
     let (sum, difference, byte) = right (m % 256) (o % 256) (u % 256) (h % 256) one in

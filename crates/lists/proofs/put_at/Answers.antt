@@ -2,7 +2,7 @@
 -- so the need is not capped where it fits.
 use Rattle.std.proofs.Common.{rules, arith, ◌≡◌, ◌+◌, length}
 use Rattle.payload_util.specs.Guards.{room}
-use Rattle.payload_util.proofs.Guards.{passed, refused, room_pass, room_capped}
+use Rattle.payload_util.proofs.Guards.{passed, refused, room_capped}
 use Rattle.lists.proofs.State.{placed, not_placed}
 use Rattle.lists.proofs.put_at.Goals as goal
 use Rattle.lists.proofs.put_at.Goals.{After-require_room}
@@ -16,14 +16,6 @@ returns-in_err-require_room c =
     let roomless = refused (fits (goal.at.returns-in_err-require_room c).After-require_room) c.in_err-require_room.was in
     let e = not_placed a.code a.offset a.bytes.now a.out.now roomless in
     search rules
-
-pub slice_bounds-put_bytes-count : goal.slice_bounds-put_bytes-count
-slice_bounds-put_bytes-count c =
-    omega (arith, room_pass _ _ _ (passed (fits (goal.at.slice_bounds-put_bytes-count c).After-require_room) c.in_ok-require_room.was))
-
-pub slice_bounds-put_bytes-start : goal.slice_bounds-put_bytes-start
-slice_bounds-put_bytes-start c =
-    omega (arith, room_pass _ _ _ (passed (fits (goal.at.slice_bounds-put_bytes-start c).After-require_room) c.in_ok-require_room.was))
 
 pub returns : goal.returns
 returns c =
