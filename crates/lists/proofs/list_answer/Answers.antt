@@ -5,10 +5,10 @@ use Rattle.lists.specs.List.{list_answer}
 use Rattle.lists.proofs.Sizes.{too_large}
 use Rattle.lists.proofs.list_answer.Goals as goal
 
-pub returns-in-None : goal.returns-in-None
+pub returns-in_default : goal.returns-in_default
 unfolding list_answer
-returns-in-None c =
+returns-in_default c =
     let a = c.args in
     let some = rw c.new.ensures at (passed c.require.ensures c.in_ok-require.was) in
-    let large = too_large a.code (a.n * a.size) a.given (omega arith) (omega (arith, c.in-None.ensures)) in
+    let large = too_large a.code (a.n * a.size) a.given (omega arith) (omega (arith, c.in_default.ensures)) in
     simp (c.with_values.ensures, some, large)
