@@ -13,15 +13,11 @@ use Rattle.payload_util.proofs.InOrder.{also_none, shifted, in_blocks}
 use Rattle.payload_util.proofs.Losses.{times_at}
 use Rattle.payload_util.proofs.Folds.{length_times}
 use Rattle.payload_util.proofs.Limits.{limit_at, by_limits}
-use Rattle.led.specs.Led.{led_code, led_limits, led_loss}
+use Rattle.led.specs.Led.{led_code, led_limits, led_loss, record_within}
 
 module _ (row : Row) (highest : ℕ) (p : List ℕ) where
   abbrev f : ℕ → Guard
   f = limited row led_code (led_loss highest) p
-
-  -- the bytes of one record
-  abbrev pub record_limited : ℕ → Guard
-  record_limited k = in_order f (14 * k) 14
 
   module _ (k : ℕ) (there : k < length p / 14) where
     limit : (j : ℕ) → j < 14 → get_or (times (length p / 14) (led_limits highest)) (14 * k + j) any ≡ get_or (led_limits highest) j any
@@ -30,10 +26,10 @@ module _ (row : Row) (highest : ℕ) (p : List ℕ) where
     abbrev color : ℕ → Guard
     color j = limit_at row led_code highest p (14 * k + j)
 
-    pub record_limits : (color 5 also color 6 also color 12 also color 13) ≡ record_limited k
-    unfolding in_order
+    pub record_limits : record_within row highest p k ≡ (color 5 also color 6 also color 12 also color 13)
+    unfolding in_order record_within
     record_limits =
-        sym (ap (λ (i : ℕ). in_order f i 14) (sym (add-zero (14 * k))) ∙ shifted f (14 * k) 0 14
+        ap (λ (i : ℕ). in_order f i 14) (sym (add-zero (14 * k))) ∙ shifted f (14 * k) 0 14
         ∙ simp (
           limit 0 (omega arith),
           limit 1 (omega arith),
@@ -50,10 +46,11 @@ module _ (row : Row) (highest : ℕ) (p : List ℕ) where
           limit 12 (omega arith),
           limit 13 (omega arith),
           also_none,
-        ))
+        )
 
   -- all records in order are all bytes in order
-  pub all_records : in_order record_limited 0 (length p / 14) ≡ within_limits row led_code (led_loss highest) p
+  pub all_records : in_order (record_within row highest p) 0 (length p / 14) ≡ within_limits row led_code (led_loss highest) p
+  unfolding record_within
   all_records =
       sym (by_limits row led_code (led_loss highest) p (14 * (length p / 14)) (omega (arith, length_times (length p / 14) (led_limits highest)))
-      ∙ in_blocks f record_limited 14 0 (length p / 14) (λ k lt. refl))
+      ∙ in_blocks f (record_within row highest p) 14 0 (length p / 14) (λ k lt. refl))

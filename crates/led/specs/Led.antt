@@ -1,7 +1,8 @@
 -- osdp_LED (0x69), R4.1, §6.9, Tables 16 to 18: records of 14 bytes. Reader and LED; temporary control, on time, off time, on colour, off colour
 -- and timer u16; permanent control, on time, off time, on colour and off colour.
-use Rattle.std.specs.Prelude.{List, [], ◌∷◌, ◌++◌, ℕ, cond, ltb, length, drop, Option, None, Some}
-use Rattle.payload_util.specs.Prelude.{byte_at, u16_at, u16_bytes, positive_multiple_of, named, Keep, any, up_to, Loss, above_in_each, Form, listed}
+use Rattle.std.specs.Prelude.{List, [], ◌∷◌, ◌++◌, ℕ, ◌*◌, cond, ltb, length, drop, Option, None, Some}
+use Rattle.payload_util.specs.Prelude.{byte_at, u16_at, u16_bytes, positive_multiple_of, named, Keep, any, up_to, Loss, above_in_each, limited, in_order, Guard, Form, listed}
+use Rattle.payload_util.specs.declared.Row.{Row}
 use Rattle.led.specs.declared.LedColor.{LedColor}
 use Rattle.led.specs.declared.LedTemporary.{LedTemporary}
 use Rattle.led.specs.declared.LedPermanent.{LedPermanent}
@@ -77,6 +78,10 @@ led_limits highest =
 -- reading loses colours above the highest
 abbrev pub led_loss : ℕ → Loss
 led_loss highest = above_in_each 14 (led_limits highest)
+
+-- the row for the first colour of record k, by offset, that is above the highest
+unfoldable pub record_within : Row → ℕ → List ℕ → ℕ → Guard
+record_within row highest p k = in_order (limited row led_code (led_loss highest) p) (14 * k) 14
 
 abbrev pub leds : Form
 leds = listed (record {

@@ -2,11 +2,11 @@
 #![tactic(auto)]
 
 ghost use Rattle.std.specs.Prelude.{◌≡◌, ◌*◌, ◌/◌, ◌≤◌, ◌<◌, length, refl};
-ghost use Rattle.std.proofs.Common.{arith};
-ghost use Rattle.payload_util.specs.Prelude.{in_order, keep, times, limited, within_limits};
+ghost use Rattle.std.proofs.Common.{lit<};
+ghost use Rattle.payload_util.specs.Prelude.{keep, times, within_limits};
 ghost use Rattle.payload_util.specs.declared.Row.TheVariants.{Folded};
 ghost use Rattle.led.specs.Led.{color_byte, color_of, highest_color};
-ghost use Rattle.led.specs.Led.{temporary_of, permanent_of, led_of, led_bytes, led_code, led_at, led_limits, led_loss, leds};
+ghost use Rattle.led.specs.Led.{temporary_of, permanent_of, led_of, led_bytes, led_code, led_at, led_limits, led_loss, record_within, leds};
 
 use lists::{ListRecord, put_at};
 use payload_util::{
@@ -184,7 +184,7 @@ impl ListRecord for LedRecord {
 
     ghost bytes = { led_bytes };
 
-    ghost some_bytes = { Prim.omega arith };
+    ghost some_bytes = { lit< tt };
 
     ghost all_bytes = { λ r. refl };
 
@@ -265,9 +265,10 @@ impl LedRecord {
     }
 
     // The row for the first colour of a record, by offset, that is above the highest.
+    #[tactic(auto, using(payload_util::proofs::Guards::passed, payload_util::proofs::Guards::stopped, payload_util::proofs::Guards::skipped, crate::proofs::Limits::record_limits))]
     fn record_within(p: &[u8], index: usize, highest: u8, row: Row) -> Result<(), Refusal>
         requires { index < length p.now / 14 }
-        ensures { result ≡ in_order (limited row led_code (led_loss highest) p.now) (14 * index) 14 }
+        ensures { result ≡ record_within row highest p.now index }
     {
         let start = Self::WIRE_LEN * index;
         require_limit(p, start + 5, highest, row, Self::CODE)?;
@@ -276,7 +277,8 @@ impl LedRecord {
         require_limit(p, start + 13, highest, row, Self::CODE)
     }
 
-    // The row for the first colour of the payload, by offset, that is above the highest.
+    // The row for the first colour of the payload, by offset, that is above the highest. By number, since the row names an offset of the payload.
+    #[tactic(auto, using(payload_util::proofs::Guards::passed, payload_util::proofs::Guards::refused, payload_util::proofs::InOrder::more, payload_util::proofs::InOrder::stop, payload_util::proofs::InOrder::done, crate::proofs::Limits::all_records))]
     fn colors_within(p: &[u8], highest: u8, row: Row) -> Result<(), Refusal>
         ensures { result ≡ within_limits row led_code (led_loss highest) p.now }
     {
