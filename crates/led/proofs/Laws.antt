@@ -24,20 +24,12 @@ use Rattle.payload_util.proofs.Forms.{listed_law}
 use Rattle.led.specs.Led.{color_byte, color_of, led_code, led_of, led_bytes, led_limits, leds}
 use Rattle.led.specs.declared.LedRecord.{LedRecord}
 use Rattle.led.specs.declared.LedColor.{LedColor}
-use Rattle.led.specs.declared.LedColor.TheVariants.{Black, Red, Green, Amber, Blue, Magenta, Cyan, White}
 use Rattle.payload_util.specs.Refusals.{Pass}
 
 -- a colour's byte reads back as the colour
 pub color_back : (c : LedColor) → color_of (color_byte c) ≡ c
 unfolding color_of
-color_back Black = refl
-color_back Red = refl
-color_back Green = refl
-color_back Amber = refl
-color_back Blue = refl
-color_back Magenta = refl
-color_back Cyan = refl
-color_back White = refl
+color_back c = grind arith
 
 -- a byte up to 7 stays, and one above becomes 0
 pub color_kept : (b : ℕ) → b < 256 → color_byte (color_of b) ≡ kept (up_to 7) b

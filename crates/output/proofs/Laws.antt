@@ -27,20 +27,14 @@ use Rattle.payload_util.proofs.Forms.{listed_law}
 use Rattle.output.specs.Output.{out_code, output_byte, output_codes, read_output_code, code_known, codes_known, out_of, out_bytes, outputs}
 use Rattle.output.specs.declared.OutputRecord.{OutputRecord}
 use Rattle.output.specs.declared.OutputControlCode.{OutputControlCode}
-use Rattle.output.specs.declared.OutputControlCode.TheVariants.{Nop, PermanentOffAbortTimed, PermanentOnAbortTimed, PermanentOffAllowTimed, PermanentOnAllowTimed, TemporaryOnResume, TemporaryOffResume}
+use Rattle.output.specs.declared.OutputControlCode.TheVariants.{Nop}
 use Rattle.std.specs.Prelude.{Ok}
 use Rattle.payload_util.specs.declared.Row.TheVariants.{UnknownOutputCode}
 
 -- a code's byte reads back as the code
 pub output_back : (c : OutputControlCode) → read_output_code (output_byte c) ≡ Ok c
 unfolding read_output_code
-output_back Nop = refl
-output_back PermanentOffAbortTimed = refl
-output_back PermanentOnAbortTimed = refl
-output_back PermanentOffAllowTimed = refl
-output_back PermanentOnAllowTimed = refl
-output_back TemporaryOnResume = refl
-output_back TemporaryOffResume = refl
+output_back c = grind arith
 
 -- a byte that reads as a code is that code's byte
 pub output_exact : (b : ℕ) (c : OutputControlCode) → read_output_code b ≡ Ok c → output_byte c ≡ b
