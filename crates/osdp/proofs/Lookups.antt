@@ -1,15 +1,14 @@
 -- The kind of a payload by its code byte.
 -- Assumes nothing.
-use mathlib.Core.Path.{◌≡◌, ap}
+use mathlib.Core.Path.{◌≡◌, sym, ap}
 use mathlib.Core.List.{List}
 use Prim.Native.Nat.{ℕ, ◌≤◌}
-use native.Mathlib.Omega.{arith}
 use borrow.Author.Tests.{leb-true, le-leb}
 use lib.ListN.{length}
 use Rattle.std.specs.Prelude.{Ok, Err}
 use Rattle.payload_util.specs.Refusals.{Outcome}
 use Rattle.payload_util.specs.Outcome.{outcome}
-use Rattle.payload_util.proofs.Guards.{check_pass, gives_pass}
+use Rattle.payload_util.proofs.Guards.{no_refusal, check_pass, gives_pass}
 use Rattle.osdp.specs.declared.Side.{Side}
 use Rattle.osdp.specs.declared.Kind.{Kind}
 use Rattle.osdp.specs.Kinds.{kind_of, ◌then◌}
@@ -28,4 +27,4 @@ module _ (side : Side) (c : ℕ) (p : List ℕ) (k : Kind) where
       go (Ok j) h =
           let (fits, same) = gives_pass (not_too_long c p) j k h in
           (ap Ok same, leb-true _ _ (check_pass _ _ fits))
-      go (Err r) h = let z : ◌≡◌ {A = ℕ} 0 1 = cc in absurd (omega arith)
+      go (Err r) h = absurd (no_refusal (sym h))

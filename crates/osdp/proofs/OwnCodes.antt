@@ -4,12 +4,12 @@ use mathlib.Core.Path.{◌≡◌, refl, sym, ap, subst, ◌∙◌}
 use mathlib.Core.Bool.{Bool, true, false, cond}
 use mathlib.Core.List.{List, [], ◌∷◌}
 use Prim.Native.Nat.{ℕ}
-use native.Mathlib.Omega.{arith}
 use borrow.Author.Tests.{eqb-true}
 use lib.Dec.{eqb}
 use Rattle.payload_util.specs.Outcome.{named}
 use Rattle.payload_util.specs.Writing.{rewrite}
 use Rattle.payload_util.specs.Form.{code, check as check_of, strict as strict_of, normalise as normalise_of}
+use Rattle.payload_util.proofs.Guards.{no_refusal}
 use Rattle.osdp.specs.declared.Side.{Side}
 use Rattle.osdp.specs.declared.Kind.{Kind}
 use Rattle.osdp.specs.Kinds.{form, kinds, in_table, carried, kind_of, ◌then◌}
@@ -34,7 +34,7 @@ own k side b is named = (
 -- the kind that a list has for a byte is on the list's side, and has the byte
 found_in : (side : Side) (ks : List Kind) → OnSide side ks → (b : ℕ) (k : Kind) → carried ks b ≡ Ok k
     → ((side_and_code k).0 ≡ side) × (code (form k) ≡ b)
-found_in side [] on b k e = let z : ◌≡◌ {A = ℕ} 0 1 = cc in absurd (omega arith)
+found_in side [] on b k e = absurd (no_refusal (sym e))
 found_in side (j ∷ ks) (here, on) b k e = go (λ h. found_in side ks on b k h) (eqb b (code (form j))) refl e
   where
     go : (carried ks b ≡ Ok k → ((side_and_code k).0 ≡ side) × (code (form k) ≡ b))
@@ -47,7 +47,7 @@ found_in side (j ∷ ks) (here, on) b k e = go (λ h. found_in side ks on b k h)
 
 looked_up : (g : Guard) (o : Outcome Kind) (k : Kind) → (g then λ known. o) ≡ Ok k → o ≡ Ok k
 looked_up (Ok _) o k e = e
-looked_up (Err r) o k e = let z : ◌≡◌ {A = ℕ} 0 1 = cc in absurd (omega arith)
+looked_up (Err r) o k e = absurd (no_refusal (sym e))
 
 pub own_codes : OwnCodes
 unfolding kind_of

@@ -8,14 +8,14 @@ use lib.ListN.{length, take, drop}
 use Rattle.payload_util.specs.Bytes.{Bytes}
 use Rattle.payload_util.specs.Refusals.{◌also◌, Outcome, Guard, Pass}
 use Rattle.payload_util.specs.Guards.{room}
-use Rattle.payload_util.specs.Writing.{Effect, effect, put_checked, rewrite}
+use Rattle.payload_util.specs.Writing.{Effect, effect, room_last, put_checked, rewrite}
 use Rattle.payload_util.specs.Loss.{limits, without, limited, within_limits}
 use Rattle.payload_util.specs.Form.{code, loss, check as check_of, strict as strict_of, normalise as normalise_of}
 use Rattle.payload_util.specs.declared.Refusal.{Refusal}
-use Rattle.payload_util.proofs.Guards.{check_pass, also_pass, pass_room}
+use Rattle.payload_util.proofs.Guards.{no_refusal, check_pass, also_pass, pass_room}
 use Rattle.payload_util.proofs.InOrder.{all_pass}
 use Rattle.payload_util.proofs.Losses.{without_le, kept_all, kept_whole}
-use Rattle.payload_util.proofs.Scheme.{wrote, normalise_is}
+use Rattle.payload_util.proofs.Scheme.{wrote, counted, normalise_is}
 use Rattle.osdp.specs.declared.Side.{Side}
 use Rattle.osdp.specs.declared.Kind.{Kind}
 use Rattle.osdp.specs.declared.Kind.TheVariants.{Nak}
@@ -41,14 +41,6 @@ loses_nothing k l r m s n p = unchanged k p n (no_limits k l r m s p)
 
 -- ---- writing
 
--- the count is that of the bytes
-count_is : (g : Guard) (code : ℕ) (bs out : List ℕ) (n : ℕ) → (put_checked g code bs out).0 ≡ Ok n → n ≡ length bs
-count_is g code bs out n e = go (g also room code (length bs) (length out)) e
-  where
-    go : (h : Guard) → (effect h bs out).0 ≡ Ok n → n ≡ length bs
-    go (Ok _) k = cc
-    go (Err r) k = let z : ◌≡◌ {A = ℕ} 0 1 = cc in absurd (omega arith)
-
 module _ (k : Kind) (p out : List ℕ) (b : Bytes p) where
   -- normalise of one kind
   normal : normalise_of (form k) p out ≡ put_checked (check_of (form k) p) (code (form k)) (without (loss (form k)) p) out
@@ -70,7 +62,7 @@ module _ (k : Kind) (p out : List ℕ) (b : Bytes p) where
     written_is = ap (λ (x : Effect). take n x.1) normal ∙ (wrote (check_of (form k) p) (code (form k)) (without (loss (form k)) p) out n w').0
 
     no_more : n ≤ length p
-    no_more = omega (arith, count_is (check_of (form k) p) (code (form k)) (without (loss (form k)) p) out n w', without_le (loss (form k)) p)
+    no_more = omega (arith, counted (room_last (check_of (form k) p) (room (code (form k)) _ (length out))) (without (loss (form k)) p) out n w', without_le (loss (form k)) p)
 
 -- ---- by code byte
 
@@ -80,7 +72,7 @@ module _ (side : Side) (c : ℕ) (p out : List ℕ) (b : Bytes p) where
       × ((n : ℕ) × ((normalise side c p out).0 ≡ Ok n) → check side c p ≡ Pass)
   one room (Ok k) e = rw e (succeeds k p out b room, λ (n, w). passes k p out b n w)
   one room (Err r) e =
-      rw e (λ h. let z : ◌≡◌ {A = ℕ} 0 1 = cc in absurd (omega arith), λ (n, h). let z : ◌≡◌ {A = ℕ} 0 1 = cc in absurd (omega arith))
+      rw e (λ h. absurd (no_refusal (sym h)), λ (n, h). absurd (no_refusal (sym h)))
 
   two : (n : ℕ) (o : Outcome Kind) → kind_for side c p ≡ o → (normalise side c p out).0 ≡ Ok n
       → (n ≤ length p) × (check side c (take n (normalise side c p out).1) ≡ Pass)
@@ -89,7 +81,7 @@ module _ (side : Side) (c : ℕ) (p out : List ℕ) (b : Bytes p) where
       let (named, short) = kind_gives side c p k e in
       let same = by_kind side c (without (loss (form k)) p) k named (omega (arith, without_le (loss (form k)) p)) in
       (no_more k p out b n w, rw (e, written_is k p out b n w, same) ((law k).steady p ∙ passes k p out b n w))
-  two n (Err r) e h = let w = rw e at h in let z : ◌≡◌ {A = ℕ} 0 1 = cc in absurd (omega arith)
+  two n (Err r) e h = absurd (no_refusal (sym (rw e at h)))
 
   refused : (e : Refusal) (o : Outcome Kind) → kind_for side c p ≡ o → check side c p ≡ Err e → normalise side c p out ≡ (Err e, out)
   refused e (Ok k) q h = let h' : check_of (form k) p ≡ Err e = rw q at h in rw q (simp h')
@@ -102,7 +94,7 @@ module _ (side : Side) (c : ℕ) (p out : List ℕ) (b : Bytes p) where
       let (g, f) = also_pass (check_of (form k) p) (within_limits Folded (code (form k)) (loss (form k)) p) s' in
       let whole = unchanged k p (λ is. n ((kind_gives side c p k e).0 ∙ ap Ok is)) f in
       rw e (normal k p out b ∙ simp (g, whole, pass_room (code (form k)) (length p) (length out) room))
-  three (Err r) e s n room = let s' = rw e at s in let z : ◌≡◌ {A = ℕ} 0 1 = cc in absurd (omega arith)
+  three (Err r) e s n room = absurd (no_refusal (sym (rw e at s)))
 
   -- a count that C is told fits
   short : (o : Outcome Kind) → kind_for side c p ≡ o → Short (rewrite o (λ k. normalise_of (form k) p out) out).0
