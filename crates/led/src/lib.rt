@@ -28,7 +28,7 @@ pub enum LedColor {
 }
 
 impl LedColor {
-    const HIGHEST: u8 = 7;
+    const HIGHEST: u8 = LedColor::White as u8;
 
     // By its name in the Rust, with no `From` beside it. An unknown colour becomes Black.
     #[tactic(auto, unfolding(crate::specs::Led::color_of))]

@@ -25,7 +25,7 @@ pub enum OutputControlCode {
 }
 
 impl OutputControlCode {
-    const HIGHEST: u8 = 6;
+    const HIGHEST: u8 = OutputControlCode::TemporaryOffResume as u8;
 
     // By its name in the Rust, with no `TryFrom` beside it. Row 7 if no code has this byte.
     #[tactic(auto, unfolding(crate::specs::Output::read_output_code))]

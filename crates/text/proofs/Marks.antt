@@ -11,6 +11,7 @@ use lib.ListN.{length, get_or, take, drop}
 use lib.Seq.{take_all, drop-cons, drop-drop}
 use Rattle.payload_util.specs.Bytes.{Bytes}
 use Rattle.payload_util.specs.Refusals.{◌also◌, in_order, Guard}
+use Rattle.payload_util.proofs.InOrder.{also_assoc}
 use Rattle.std.proofs.lemmas.Bool.{agree_below, agree_below_at, and_parts}
 use Rattle.text.specs.Text.{shown, told, printable_at, printable, bytes_of, KnownWord}
 use Rattle.std.specs.Prelude.{Ok, Err, Some}
@@ -35,17 +36,13 @@ first_byte : (b : ℕ) (s : List ℕ) → printable (b ∷ s) ≡ (told (shown b
 unfolding printable in_order
 first_byte b s = ap (λ (g : Guard). told (shown b) also g) (later b s 0 (length s))
 
-told_also : (t : Bool) (g h : Guard) → (told t also g also h) ≡ ((told t also g) also h)
-told_also true g h = refl
-told_also false g h = refl
-
 -- the first n bytes, and then the rest
 apart : (n : ℕ) (s : List ℕ) → printable s ≡ (printable (take n s) also printable (drop n s))
 unfolding printable in_order
 apart zero s = refl
 apart (suc n) [] = refl
 apart (suc n) (b ∷ s) =
-    rw (first_byte b s, first_byte b (take n s), apart n s) (told_also (shown b) (printable (take n s)) (printable (drop n s)))
+    rw (first_byte b s, first_byte b (take n s), apart n s) (sym (also_assoc (told (shown b)) (printable (take n s)) (printable (drop n s))))
 
 -- ---- the test on a word of n bytes
 
@@ -204,7 +201,7 @@ words_told (suc n) s =
     let rest = list_all all_shown (first_chunks 8 n (drop 8 s)) in
     let at : drop (suc n * 8) s ≡ drop (n * 8) (drop 8 s) = ap (λ (i : ℕ). drop i s) (omega arith) ∙ sym (drop-drop (n * 8) 8 s) in
     ap (λ (g : Guard). g also printable (drop (suc n * 8) s)) (both a rest)
-    ∙ sym (told_also a (told rest) (printable (drop (suc n * 8) s)))
+    ∙ also_assoc (told a) (told rest) (printable (drop (suc n * 8) s))
     ∙ ap₂ ◌also◌ (told_shown (take 8 s)) (ap (λ (t : List ℕ). told rest also printable t) at ∙ words_told n (drop 8 s))
     ∙ sym (apart 8 s)
 

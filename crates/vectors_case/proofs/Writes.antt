@@ -2,22 +2,19 @@
 -- Assumes nothing.
 use mathlib.Core.Path.{◌≡◌, refl, sym, ap, ◌∙◌}
 use mathlib.Core.Logic.{◌↔◌}
-use mathlib.Core.List.{List, ◌∷◌, ◌++◌}
-use Prim.Native.Nat.{ℕ, zero, suc, ◌-◌, ◌≤◌}
-use native.Mathlib.Nat.{zero-add, sub-zero}
+use mathlib.Core.List.{List, ◌++◌}
+use Prim.Native.Nat.{ℕ, ◌≤◌}
+use native.Mathlib.Nat.{zero-add}
 use native.Mathlib.Omega.{arith}
 use lib.ListN.{length, take, drop, replicate, length-append, length-drop}
 use lib.Seq.{take_at, drop_at}
 use Rattle.std.specs.Prelude.{Ok, Err}
+use Rattle.std.proofs.lemmas.List.{take-replicate, drop-replicate}
+use Rattle.payload_util.proofs.Guards.{no_refusal}
 use Rattle.payload_util.specs.Refusals.{Outcome, Guard}
 use Rattle.payload_util.specs.Outcome.{outcome}
 use Rattle.payload_util.specs.Writing.{Effect, effect}
 use Rattle.vectors_case.specs.Buffer.{AllFrom, around}
-
-drop_replicate : (n m b : ℕ) → drop n (replicate m b) ≡ replicate (m - n) b
-drop_replicate zero m b = simp sub-zero
-drop_replicate (suc n) zero b = let none : zero - suc n ≡ zero = omega arith in simp none
-drop_replicate (suc n) (suc m) b = let less : suc m - suc n ≡ m - n = omega arith in rw less (drop_replicate n m b)
 
 -- a writer of these bytes into a buffer of n bytes that was filled up with b
 module _ (bytes : List ℕ) (n b : ℕ) where
@@ -28,19 +25,14 @@ module _ (bytes : List ℕ) (n b : ℕ) where
   pub effect_wrote : (g : Guard) (k : ℕ) (s : List ℕ) → ◌≡◌ {A = Outcome ℕ} (Ok k) (outcome g (length bytes))
       → (s ≡ around 0 bytes n b) ↔ ◌≡◌ {A = Effect} (Ok k, s) (effect g bytes (replicate n b))
   effect_wrote (Ok _) k s a =
-      let whole : bytes ++ drop (length bytes) (replicate n b) ≡ around 0 bytes n b = ap (λ (l : List ℕ). bytes ++ l) (simp zero-add (drop_replicate (length bytes) n b)) in
+      let whole : bytes ++ drop (length bytes) (replicate n b) ≡ around 0 bytes n b = ap (λ (l : List ℕ). bytes ++ l) (simp zero-add (drop-replicate (length bytes) n b)) in
       (λ q. cc, λ q. ap (λ (l : Effect). l.1) q ∙ whole)
-  effect_wrote (Err e) k s a = let z : ◌≡◌ {A = ℕ} 0 1 = cc in absurd (omega arith)
-
-take_replicate : (n m b : ℕ) → n ≤ m → take n (replicate m b) ≡ replicate n b
-take_replicate zero m b p = refl
-take_replicate (suc n) zero b p = absurd (omega arith)
-take_replicate (suc n) (suc m) b p = ap (λ l. b ∷ l) (take_replicate n m b (omega arith))
+  effect_wrote (Err e) k s a = absurd (no_refusal a)
 
 -- the first bytes of a buffer that was filled up, and the buffer after others came in their place
 module _ (s new : List ℕ) (n b : ℕ) (all : s ≡ replicate (length s) b) (fits : n ≤ length s) (same : length new ≡ n) where
   pub lent_before : take n s ≡ replicate n b
-  lent_before = ap (take n) all ∙ take_replicate n (length s) b fits
+  lent_before = ap (take n) all ∙ take-replicate n (length s) b fits
 
   pub lent_after : new ≡ take n (new ++ drop n s)
   lent_after = sym (take_at new (drop n s) n same)
@@ -48,4 +40,4 @@ module _ (s new : List ℕ) (n b : ℕ) (all : s ≡ replicate (length s) b) (fi
   pub lent_behind : AllFrom (new ++ drop n s) n b
   lent_behind =
       let long : length (new ++ drop n s) ≡ length s = length-append new (drop n s) ∙ rw (same, length-drop n s) (omega arith) in
-      drop_at new (drop n s) n same ∙ ap (drop n) all ∙ drop_replicate n (length s) b ∙ rw long refl
+      drop_at new (drop n s) n same ∙ ap (drop n) all ∙ drop-replicate n (length s) b ∙ rw long refl

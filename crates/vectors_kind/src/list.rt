@@ -54,7 +54,7 @@ fn output(c: Case, read: Result<OutputRecord, Refusal>) -> bool {
     crate::reads(c, read.map(output_bytes), &[], OUT_BYTES)
 }
 
-// By hand, since the records' writers are made of their to_bytes.
+// By hand, since the library's writers put the same bytes.
 pub fn led_bytes(r: LedRecord) -> [u8; 14] {
     let temporary = r.temporary;
     let permanent = r.permanent;
