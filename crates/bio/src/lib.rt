@@ -6,9 +6,7 @@ ghost use Rattle.payload_util.specs.Prelude.{fields, tail, write};
 ghost use Rattle.bio.specs.Bio.{bio_read_r, bio_match_r};
 
 use biometric::BioHead;
-use payload_util::{
-    Payload, Record, Refusal, byte_at, put_bytes, put_payload, require_exact_len, tail_where,
-};
+use payload_util::{Payload, Record, Refusal, byte_at, put_payload, require_exact_len, tail_where};
 
 // osdp_BIOREADR: the sample's type, format and quality. The sample is the tail; the layout is that of BIOMATCH.
 #[derive(Clone, Copy, Debug, PartialEq, Eq)]
@@ -103,11 +101,6 @@ impl BioMatchR {
     pub fn encode(self, out: &mut [u8]) -> Result<usize, Refusal>
         ensures { (result, out.new) ≡ write bio_match_r self out.old }
     {
-        put_bytes(
-            &[self.reader, self.result, self.score],
-            &[],
-            Self::CODE,
-            out,
-        )
+        put_payload(&[self.reader, self.result, self.score], Self::CODE, out)
     }
 }

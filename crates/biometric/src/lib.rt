@@ -242,7 +242,7 @@ impl BioRead {
     pub fn encode(self, out: &mut [u8]) -> Result<usize, Refusal>
         ensures { (result, out.new) ≡ write bio_read self out.old }
     {
-        put_bytes(&self.head.bytes(), &[], Self::CODE, out)
+        put_payload(&self.head.bytes(), Self::CODE, out)
     }
 }
 

@@ -23,13 +23,13 @@ use Rattle.std.specs.Prelude.{Ok, Err}
 -- bytes that were put at the front of the part that starts at a place; e is that part afterwards
 module _ (code at : ℕ) (bytes out e : List ℕ) (r : Outcome ℕ) where
   pub placed : room code (at + length bytes) (length out) ≡ Pass
-      → (r, e) ≡ put code (bytes ++ []) (take (length out - at) (drop at out))
+      → (r, e) ≡ put code bytes (take (length out - at) (drop at out))
       → (r, take at out ++ (e ++ drop (length out - at) (drop at out))) ≡ put_at code at bytes out
   placed fits h =
       let l = room_pass code (at + length bytes) (length out) fits in
       let end : length out ≤ at + (length out - at) = omega arith in
       let w : ◌≡◌ {A = Effect} (r, e) (Ok (length bytes), bytes ++ drop (length bytes) (drop at out)) =
-      h ∙ simp (append-nil, take_rest, pass_room code (length bytes) (length (drop at out)) (simp length-drop (omega arith))) in
+      h ∙ simp (take_rest, pass_room code (length bytes) (length (drop at out)) (simp length-drop (omega arith))) in
       ap (λ (x : Effect). (x.0, take at out ++ (x.1 ++ drop (length out - at) (drop at out)))) w
       ∙ simp (fits, drop-drop, drop_of_length-le out end, append-nil)
 

@@ -3,7 +3,7 @@ ghost use Rattle.std.specs.Prelude.{◌≡◌};
 ghost use Rattle.payload_util.specs.Prelude.{u16_bytes, put, fields, write};
 ghost use Rattle.plain.specs.Number.{acu_rx_size};
 
-use payload_util::{Payload, Record, Refusal, put_bytes, put_payload, require_exact_len, u16_at};
+use payload_util::{Payload, Record, Refusal, put_payload, require_exact_len, u16_at};
 
 #[derive(Clone, Copy, Debug, PartialEq, Eq)]
 pub struct AcuRxSize {
@@ -51,5 +51,5 @@ impl AcuRxSize {
 pub(crate) fn put_number(number: u16, code: u8, out: &mut [u8]) -> Result<usize, Refusal>
     ensures { (result, out.new) ≡ put code (u16_bytes number) out.old }
 {
-    put_bytes(&number.to_le_bytes(), &[], code, out)
+    put_payload(&number.to_le_bytes(), code, out)
 }

@@ -4,7 +4,7 @@ ghost use Rattle.payload_util.specs.Prelude.{fields, write};
 ghost use Rattle.plain.specs.Com.{address_and_baud};
 
 use payload_util::{
-    Payload, Record, Refusal, byte_at, put_bytes, put_payload, require_exact_len, u32_at, u32_bytes,
+    Payload, Record, Refusal, byte_at, put_payload, require_exact_len, u32_at, u32_bytes,
 };
 
 pub(crate) const LEN: usize = 5;
@@ -49,7 +49,7 @@ impl<const CODE: u8> AddressAndBaud<CODE> {
         ensures { (result, out.new) ≡ write (address_and_baud CODE) self.entry out.old }
     {
         let b = u32_bytes(self.baud);
-        put_bytes(&[self.address, b[0], b[1], b[2], b[3]], &[], CODE, out)
+        put_payload(&[self.address, b[0], b[1], b[2], b[3]], CODE, out)
     }
 }
 

@@ -3,7 +3,7 @@ ghost use Rattle.std.specs.Prelude.{◌≡◌};
 ghost use Rattle.payload_util.specs.Prelude.{fields, write};
 ghost use Rattle.plain.specs.LStat.{l_stat_r};
 
-use payload_util::{Payload, Record, Refusal, byte_at, put_bytes, put_payload, require_exact_len};
+use payload_util::{Payload, Record, Refusal, byte_at, put_payload, require_exact_len};
 
 // 0 is normal, 1 is tamper or a power failure; any byte is accepted.
 #[derive(Clone, Copy, Debug, PartialEq, Eq)]
@@ -46,6 +46,6 @@ impl LStatR {
     pub fn encode(self, out: &mut [u8]) -> Result<usize, Refusal>
         ensures { (result, out.new) ≡ write l_stat_r self out.old }
     {
-        put_bytes(&[self.tamper, self.power], &[], Self::CODE, out)
+        put_payload(&[self.tamper, self.power], Self::CODE, out)
     }
 }

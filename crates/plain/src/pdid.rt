@@ -4,7 +4,7 @@ ghost use Rattle.payload_util.specs.Prelude.{fields, write};
 ghost use Rattle.plain.specs.PdId.{pd_id};
 
 use payload_util::{
-    Payload, Record, Refusal, byte_at, put_bytes, put_payload, require_exact_len, u32_at, u32_bytes,
+    Payload, Record, Refusal, byte_at, put_payload, require_exact_len, u32_at, u32_bytes,
 };
 
 #[derive(Clone, Copy, Debug, PartialEq, Eq)]
@@ -76,6 +76,6 @@ impl PdId {
             self.firmware_minor,
             self.firmware_build,
         ];
-        put_bytes(&head, &[], Self::CODE, out)
+        put_payload(&head, Self::CODE, out)
     }
 }

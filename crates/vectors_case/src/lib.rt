@@ -119,6 +119,7 @@ impl<'a> Case<'a> {
         ensures called { (result ≡ true) → (written : Outcome ℕ) × Tried self.entry written out.new
             × FnOnceReturnsAtMut F.FnOnce call (replicate self.entry.room self.entry.fill) (Some written) (take self.entry.room out.new) }
     {
+        // by `match`: with `is_some_and` the search does not prove the clause
         match self.lend_room(&mut *out, call).flatten() {
             Some(written) => self.wrote(written, out),
             None => false,

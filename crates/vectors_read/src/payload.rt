@@ -50,13 +50,12 @@ fn finds(c: Case, found: Result<Kind, Refusal>) -> bool {
 
 // Whether the wanted refusal is one of a code byte, whatever the payload.
 fn is_of_code(c: Case) -> bool {
-    match c.wanted {
-        Err(e) => matches!(
+    c.wanted.is_err_and(|e| {
+        matches!(
             e.row,
             Row::UnknownCommand | Row::UnknownReply | Row::NotCarried
-        ),
-        Ok(()) => false,
-    }
+        )
+    })
 }
 
 // The code byte of a kind, by docs/REQUIREMENTS.md.

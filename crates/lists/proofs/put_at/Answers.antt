@@ -20,4 +20,4 @@ returns-in_err-require_room c =
 pub returns : goal.returns
 returns c =
     let a = c.args in
-    placed a.code a.offset a.bytes.now a.out.now _ _ (passed (fits (goal.at.returns c).After-require_room) c.in_ok-require_room.was) c.put_bytes.ensures
+    placed a.code a.offset a.bytes.now a.out.now _ _ (passed (fits (goal.at.returns c).After-require_room) c.in_ok-require_room.was) c.put_payload.ensures
