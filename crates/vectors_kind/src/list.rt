@@ -16,7 +16,11 @@ pub(crate) fn records(c: Case, size: usize) -> bool
     let mut parts = c.want.chunks_exact(size).enumerate();
     c.want.len() % size == 0
         && (c.wanted.is_err() || c.want.len() / size == n)
-        && parts.all(|(k, want)| record(Case { argument: k, want, ..c }))
+        && parts.all(|(k, want)| record(Case {
+            argument: k,
+            want,
+            ..c
+        }))
         && record(past(c, n))
 }
 

@@ -28,7 +28,12 @@ fn split(c: Case) -> Option<(&[u8], &[u8])> {
     c.input.split_at_checked(c.argument)
 }
 
-fn write_command(code: u8, f: &[u8], tail: &[u8], out: &mut [u8]) -> Option<Result<usize, Refusal>> {
+fn write_command(
+    code: u8,
+    f: &[u8],
+    tail: &[u8],
+    out: &mut [u8],
+) -> Option<Result<usize, Refusal>> {
     let written = match code {
         LED => return lend::leds(f, out),
         OUT => return lend::outputs(f, out),
