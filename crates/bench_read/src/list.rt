@@ -47,6 +47,7 @@ fn leds(walker: LedWalker<'_>) -> u64 {
     walker.fold(count, |n, r| n.wrapping_add(led(r)))
 }
 
+// By offset, since that is what the reader that is measured takes.
 fn outputs(p: &[u8]) -> u64 {
     let mut n = OutputRecord::count(p) as u64;
     for offset in (0..p.len()).step_by(OutputRecord::WIRE_LEN) {

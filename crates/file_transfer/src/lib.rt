@@ -27,7 +27,6 @@ impl Payload for FileTransfer {
         require_head_and_tail(p, Self::WIRE_LEN, u16_at(p, 9), Self::CODE)
     }
 
-    // Reading loses nothing.
     fn put_kept(p: &[u8], out: &mut [u8]) -> Result<usize, Refusal> {
         put_payload(p, Self::CODE, out)
     }

@@ -38,7 +38,7 @@ pub(crate) fn refusal<W: Write>(e: Refusal, out: &mut W) -> io::Result<()> {
     )
 }
 
-// The records, one after another; only LED and OUT have more than one.
+// The records, one after another; only LED and OUT have more than one. By offset, since that is shown too.
 fn records<W: Write>(kind: Kind, p: &[u8], tail: &[u8], out: &mut W) -> io::Result<()> {
     let width = match kind {
         Kind::Led => LedRecord::WIRE_LEN,

@@ -93,7 +93,7 @@ impl Input {
     }
 }
 
-// The payloads of an open file, up to its end or to a read that fails.
+// The payloads of an open file, up to its end or to a read that fails. There are more turns than any file needs.
 pub fn all<P: Eprint + AllocGlobal, R: Read, W: Write>(
     rt: &P,
     from: &mut R,

@@ -27,7 +27,6 @@ impl Payload for Keypad {
         require_head_and_tail(p, Self::WIRE_LEN, tail, Self::CODE)
     }
 
-    // Reading loses nothing.
     fn put_kept(p: &[u8], out: &mut [u8]) -> Result<usize, Refusal> {
         put_payload(p, Self::CODE, out)
     }

@@ -277,7 +277,8 @@ impl LedRecord {
         require_limit(p, start + 13, highest, row, Self::CODE)
     }
 
-    // The row for the first colour of the payload, by offset, that is above the highest. By number, since the row names an offset of the payload.
+    // The row for the first colour of the payload, by offset, that is above the highest. By number, since the row names an offset of the payload; the
+    // highest colour and the row are parameters, as in the law.
     #[tactic(auto, using(payload_util::proofs::Guards::passed, payload_util::proofs::Guards::refused, payload_util::proofs::InOrder::more, payload_util::proofs::InOrder::stop, payload_util::proofs::InOrder::done, crate::proofs::Limits::all_records))]
     fn colors_within(p: &[u8], highest: u8, row: Row) -> Result<(), Refusal>
         ensures { result ≡ within_limits row led_code (led_loss highest) p.now }

@@ -2,7 +2,6 @@ pub mod Guards
 pub mod Parts
 pub mod Table
 pub mod InOrder
-pub mod Filled
 pub mod Words
 pub mod Each
 pub mod Scheme

@@ -36,7 +36,6 @@ impl Payload for Raw {
         require_head_and_tail(p, Self::WIRE_LEN, tail, Self::CODE)
     }
 
-    // Reading loses nothing.
     fn put_kept(p: &[u8], out: &mut [u8]) -> Result<usize, Refusal> {
         put_payload(p, Self::CODE, out)
     }
@@ -131,7 +130,6 @@ impl Payload for Fmt {
         require_head_and_tail(p, Self::WIRE_LEN, tail, Self::CODE)
     }
 
-    // Reading loses nothing.
     fn put_kept(p: &[u8], out: &mut [u8]) -> Result<usize, Refusal> {
         put_payload(p, Self::CODE, out)
     }

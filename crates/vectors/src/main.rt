@@ -5,7 +5,7 @@ mod case;
 mod stream;
 mod tally;
 
-use crate::stream::{Entry, Space, Unfit};
+use crate::stream::{Entry, MOST, Space, Unfit};
 use crate::tally::{State, Tally};
 use std::io;
 use std::io::Read;
@@ -16,8 +16,8 @@ const END: u8 = 255;
 // How many more bytes a case's buffer has than its input and its output together.
 const MORE: usize = 256;
 
-// The longest buffer of a case: for the longest input and output together.
-const LONGEST: usize = 131840;
+// The longest buffer of a case.
+const LONGEST: usize = MOST + MORE;
 
 // Runs a case.
 fn whole(rt: &impl Print, e: Entry, out: &mut [u8], tally: &mut Tally) -> io::Result<()> {

@@ -9,8 +9,11 @@ use vectors_case::wanted;
 // The space holds the bytes that were read, up to this index, and from there on the input and the output of the case that was taken last.
 const BLOCKS: usize = 262144;
 
-// The whole space: behind BLOCKS is room for the longest input and output together.
-const SPACE: usize = 393728;
+// The most bytes of an input and an output together.
+pub const MOST: usize = 131584;
+
+// The whole space.
+const SPACE: usize = BLOCKS + MOST;
 
 // The class whose room is in the stream.
 pub const PLACE: u8 = 14;

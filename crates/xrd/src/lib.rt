@@ -24,7 +24,6 @@ impl Payload for Xrd {
         require_at_least(p, Self::WIRE_LEN, Self::CODE)
     }
 
-    // Reading loses nothing.
     fn put_kept(p: &[u8], out: &mut [u8]) -> Result<usize, Refusal> {
         put_payload(p, Self::CODE, out)
     }

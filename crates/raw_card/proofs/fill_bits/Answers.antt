@@ -1,5 +1,5 @@
 use Rattle.std.proofs.Common.{◌≡◌, ◌+◌, ◌*◌, ◌<◌, length, arith}
-use Rattle.payload_util.proofs.Filled.{filled_more}
+use Rattle.raw_card.proofs.Filled.{filled_more}
 use Rattle.raw_card.proofs.Bits.{length_all, bit_at}
 use Rattle.raw_card.proofs.fill_bits.Goals as goal
 

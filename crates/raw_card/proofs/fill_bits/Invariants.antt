@@ -1,6 +1,6 @@
 -- The buffer holds the bits that were written.
 use Rattle.std.proofs.Common.{◌+◌, ◌*◌, ◌≤◌, length}
-use Rattle.payload_util.proofs.Filled.{Filled}
+use Rattle.raw_card.proofs.Filled.{Filled}
 use Rattle.raw_card.specs.Raw.{all_bits}
 use Rattle.raw_card.proofs.fill_bits.Given as goal
 
