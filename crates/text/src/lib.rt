@@ -104,7 +104,7 @@ impl Text {
     }
 
     // Whether every byte lies in 0x20 to 0x7E: eight as one word while there are eight, and the rest singly. The words by `position`: with `all` the check
-    // of the longest text missed its bar, 0.4 of the Rust's decode (0.48).
+    // of the longest text takes 76 ns in place of 62 (docs/PERFORMANCE.md).
     fn printable_text(s: &[u8]) -> bool
         ensures { told result ≡ printable s.now }
     {

@@ -1,4 +1,5 @@
--- The room is the first bytes of the buffer that was filled up.
+-- The room is the first bytes of the buffer that was filled up. What both answers say of it stands in each: the goals of a generic function have no
+-- context in common that a lemma could name.
 use Rattle.std.proofs.Common.{rules, ◌≡◌, ◌≤◌, length, replicate}
 use Rattle.vectors_case.proofs.Writes.{lent_before, lent_after, lent_behind}
 use Rattle.vectors_case.proofs.Case.lend_room.Goals as goal
