@@ -1,6 +1,14 @@
 // Classes 15, 16 and 17: frames that are read, frames that are written, and the two checks of bytes.
 #![tactic(auto)]
 
+ghost use Rattle.std.specs.Prelude.{◌≡◌, true, ◌%◌, ℕ, [], ◌∷◌, ◌++◌};
+ghost use Rattle.payload_util.specs.Bytes.{u16_bytes};
+ghost use Rattle.payload_util.specs.Refusals.{Outcome};
+ghost use Rattle.crc.specs.Crc.{crc_of};
+ghost use Rattle.crc.specs.Sum.{sum_of, twos_complement};
+ghost use Rattle.frame.specs.Frame.{check_frame};
+ghost use Rattle.vectors_case.specs.Case.{Tried};
+
 use frame::Frame;
 use vectors_case::{Case, byte, u16_bytes};
 
@@ -57,12 +65,16 @@ fn is_read(c: Case) -> bool {
 }
 
 // Whether a frame is written as wanted.
-fn is_written(c: Case, r: Frame, payload: &[u8], out: &mut [u8]) -> bool {
+fn is_written(c: Case, r: Frame, payload: &[u8], out: &mut [u8]) -> bool
+    ensures { (result ≡ true) → (written : Outcome ℕ) × Tried c.entry written out.new }
+{
     c.writes_wanted(out, |room| Some(r.encode(payload, room)))
 }
 
 // Class 15. The wanted output has the fields and then the payload; what was read is written again, and has to be the frame.
-pub fn read(c: Case, out: &mut [u8]) -> bool {
+pub fn read(c: Case, out: &mut [u8]) -> bool
+    ensures { (result ≡ true) → check_frame c.entry.input.now ≡ c.entry.wanted }
+{
     let f = c.input;
     let is_right = c.guards(Frame::check(f))
         && is_read(c)
@@ -76,12 +88,17 @@ pub fn read(c: Case, out: &mut [u8]) -> bool {
 }
 
 // Class 16. The input has the fields without the code, and then the payload.
-pub fn write(c: Case, out: &mut [u8]) -> bool {
+pub fn write(c: Case, out: &mut [u8]) -> bool
+    ensures { (result ≡ true) → (written : Outcome ℕ) × Tried c.entry written out.new }
+{
     is_written(c, record(c.input, c.code), between(c.input, GIVEN, 0), out)
 }
 
 // Class 17. The bytes as a whole and in two parts have the wanted CRC and sum; the argument is the start, its low byte that of the sum.
-pub fn checks(c: Case) -> bool {
+pub fn checks(c: Case) -> bool
+    ensures { (result ≡ true) → u16_bytes (crc_of (c.entry.argument % 65536) c.entry.input.now) ++ sum_of (c.entry.argument % 256) c.entry.input.now
+        ∷ twos_complement (sum_of (c.entry.argument % 256) c.entry.input.now) ∷ [] ≡ c.entry.want.now }
+{
     let input = c.input;
     let start = (c.argument % 65536) as u16;
     let first = (c.argument % 256) as u8;

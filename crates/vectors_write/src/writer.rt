@@ -1,4 +1,8 @@
 // Classes 7, 8 and 9: the writers of records made by hand, and RAW's bits.
+ghost use Rattle.std.specs.Prelude.{◌≡◌, true, ℕ};
+ghost use Rattle.payload_util.specs.Refusals.{Outcome};
+ghost use Rattle.vectors_case.specs.Case.{Tried};
+
 use crate::{lend, record};
 use payload_util::Refusal;
 use raw_card::Raw;
@@ -7,19 +11,27 @@ use vectors_case::{
     KEEPACTIVE, KEYPAD, LED, LSTATR, MFG, NAK, OUT, PDID, RAW, TEXT, XRD,
 };
 
-pub fn command(c: Case, out: &mut [u8]) -> bool {
-    split(c).is_some_and(|(fixed, tail)| {
-        c.writes_wanted(out, |room| write_command(c.code, fixed, tail, room))
-    })
+pub fn command(c: Case, out: &mut [u8]) -> bool
+    ensures { (result ≡ true) → (written : Outcome ℕ) × Tried c.entry written out.new }
+{
+    let Some((fixed, tail)) = split(c) else {
+        return false;
+    };
+    c.writes_wanted(out, |room| write_command(c.code, fixed, tail, room))
 }
 
-pub fn reply(c: Case, out: &mut [u8]) -> bool {
-    split(c).is_some_and(|(fixed, tail)| {
-        c.writes_wanted(out, |room| write_reply(c.code, fixed, tail, room))
-    })
+pub fn reply(c: Case, out: &mut [u8]) -> bool
+    ensures { (result ≡ true) → (written : Outcome ℕ) × Tried c.entry written out.new }
+{
+    let Some((fixed, tail)) = split(c) else {
+        return false;
+    };
+    c.writes_wanted(out, |room| write_reply(c.code, fixed, tail, room))
 }
 
-pub fn bits(c: Case, out: &mut [u8]) -> bool {
+pub fn bits(c: Case, out: &mut [u8]) -> bool
+    ensures { (result ≡ true) → (written : Outcome ℕ) × Tried c.entry written out.new }
+{
     c.writes_wanted(out, |room| write_bits(c.argument, c.input, room))
 }
 
