@@ -1,4 +1,7 @@
 // Classes 5 and 6: a payload, read, checked and written again, by its code byte and by its kind.
+ghost use Rattle.std.specs.Prelude.{◌≡◌, ◌⊎◌, true};
+ghost use Rattle.osdp.specs.ByCode.{strict};
+
 use osdp::{Kind, Side};
 use payload_util::{Refusal, Row};
 use vectors_case::{
@@ -12,11 +15,15 @@ const BY_CODE: usize = 1;
 
 const OF_KIND: usize = 2;
 
-pub fn run(side: Side, c: Case, out: &mut [u8]) -> bool {
+pub fn run(side: Side, c: Case, out: &mut [u8]) -> bool
+    ensures { (result ≡ true) → (c.entry.argument ≡ 2) ⊎ (strict side c.entry.code c.entry.input.now ≡ c.entry.wanted) }
+{
     by_code(side, c, &mut *out) && of_kind(side, c, out)
 }
 
-fn by_code(side: Side, c: Case, out: &mut [u8]) -> bool {
+fn by_code(side: Side, c: Case, out: &mut [u8]) -> bool
+    ensures { (result ≡ true) → (c.entry.argument ≡ 2) ⊎ (strict side c.entry.code c.entry.input.now ≡ c.entry.wanted) }
+{
     if c.argument == OF_KIND {
         return true;
     }
