@@ -42,6 +42,9 @@ enum osdp_refusal {
     OSDP_NAK_ERROR = 10,          /* a NAK error above 9 */
     OSDP_NOT_CARRIED = 14,        /* the code is known, but its payload is not carried here */
     OSDP_NO_ROOM = 15,            /* the output buffer is too short */
+    /* of the strict check, which no call of this header makes */
+    OSDP_FOLDED = 17,             /* a byte that reading would fold: a colour above 7, a biometric type above 0x11 or format above 2 */
+    OSDP_SECOND_GENERATION = 18,  /* a colour 5 to 7, which readers of the first generation do not know */
     /* of frames, which no call of this header takes or gives */
     OSDP_FRAME = 20,              /* not a frame's first byte or control byte; or an address or sequence that no frame has */
     OSDP_FRAME_CHECK = 21,        /* the check of a frame is wrong */

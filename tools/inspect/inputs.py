@@ -180,6 +180,19 @@ def payloads_in_words():
         ("reply 48 03 02", "LSTATR, length 2", "tamper 3, power 2"),
         ("command 7B FE FF", "ACURXSIZE, length 2", "max_size 65534 bytes"),
         ("command A7 01 02", "KEEPACTIVE, length 2", "duration_ms 513"),
+        # strict for the second generation of readers, and for the first where it says something else
+        ("command 69 01 02 00 00 00 04 04 00 00 00 00 00 04 04", "LED, length 14", "record 0 at offset 0: reader 1, led 2",
+         "  temporary: control 0, on_time 0, off_time 0, on_color 4 Blue, off_color 4 Blue, timer 0",
+         "  permanent: control 0, on_time 0, off_time 0, on_color 4 Blue, off_color 4 Blue"),
+        ("command 69 00 00 00 00 00 00 00 00 00 00 00 00 06 07", "LED, length 14", "record 0 at offset 0: reader 0, led 0",
+         "  temporary: control 0, on_time 0, off_time 0, on_color 0 Black, off_color 0 Black, timer 0",
+         "  permanent: control 0, on_time 0, off_time 0, on_color 6 Cyan, off_color 7 White",
+         "strict, first generation: refused, row 18 (12, 6): colour that the first generation does not know (offset, byte)"),
+        ("command 69 00 00 00 00 00 05 00 00 00 00 00 00 00 09", "LED, length 14", "record 0 at offset 0: reader 0, led 0",
+         "  temporary: control 0, on_time 0, off_time 0, on_color 5 Magenta, off_color 0 Black, timer 0",
+         "  permanent: control 0, on_time 0, off_time 0, on_color 0 Black, off_color 0 Black",
+         "strict: refused, row 17 (13, 9): byte that reading would fold (offset, byte)",
+         "normalised: 00 00 00 00 00 05 00 00 00 00 00 00 00 00"),
     ]
 
 

@@ -2,7 +2,7 @@
 use osdp::error::Error;
 use std::sync::LazyLock;
 
-#[derive(Clone, Copy)]
+#[derive(Clone, Copy, PartialEq, Eq)]
 pub struct Refusal {
     pub row: u8,
     pub code: u8,

@@ -1,5 +1,6 @@
 //! Cases, and the original's answers to them.
-use crate::{model, records};
+use crate::model::{self, Generation};
+use crate::records;
 use judge::frame::{self, Frame};
 use judge::kinds::{kind, Kind, Side};
 use judge::read::{read, read_of_kind, Written};
@@ -54,8 +55,8 @@ pub enum Answer {
     Gave(Vec<u8>),
     /// A record made by hand that is written.
     Wrote(Written),
-    /// A payload that is accepted: fields, tail, the record written again, and what strict refuses.
-    Read { kind: &'static Kind, parts: records::Parts, wrote: Written, strict: Option<Refusal> },
+    /// A payload that is accepted: fields, tail, the record written again, and what strict refuses for the second and for the first generation.
+    Read { kind: &'static Kind, parts: records::Parts, wrote: Written, strict: Option<Refusal>, first: Option<Refusal> },
     /// A frame that is accepted: what it says, and its payload.
     Framed(Frame, Vec<u8>),
 }
@@ -97,7 +98,8 @@ fn payload(side: Side, of_kind: bool, code: u8, payload: &[u8]) -> Answer {
     };
     let (kind, parts) = kind(side, code).zip(records::parts_of(&record)).expect("a carried kind");
     let wrote = record.written(kind, &parts.fixed).unwrap_or_else(|e| panic!("what was read is not written: row {}", e.row));
-    Answer::Read { kind, parts, wrote, strict: model::strict(kind, payload) }
+    let strict = |generation| model::strict(kind, payload, generation);
+    Answer::Read { kind, parts, wrote, strict: strict(Generation::Second), first: strict(Generation::First) }
 }
 
 fn write(side: Side, code: u8, fixed: &[u8], tail: &[u8]) -> Answer {

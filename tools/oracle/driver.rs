@@ -118,9 +118,10 @@ fn text(a: &Answer) -> String {
         Answer::Passed => "passed".into(),
         Answer::Gave(bytes) => format!("gave {}", hex(bytes)),
         Answer::Wrote(w) => format!("gave {}{}", hex(&w.bytes), differs(w)),
-        Answer::Read { parts, wrote, strict, .. } => {
-            let strict = strict.map_or("passed".into(), |e| refused(&e));
-            format!("read {} {} wrote {} strict {strict}{}", hex(&parts.fixed), hex(&parts.tail), hex(&wrote.bytes), differs(wrote))
+        Answer::Read { parts, wrote, strict, first, .. } => {
+            let said = |e: &Option<Refusal>| e.map_or("passed".into(), |e| refused(&e));
+            let other = if first == strict { String::new() } else { format!(" first {}", said(first)) };
+            format!("read {} {} wrote {} strict {}{other}{}", hex(&parts.fixed), hex(&parts.tail), hex(&wrote.bytes), said(strict), differs(wrote))
         }
         Answer::Framed(f, payload) => {
             let (side, check) = names(f.reply, f.crc);

@@ -187,6 +187,45 @@ def colours():
                     yield case(LED, bytes(p))
 
 
+FIRST_KNOWS = 4  # the highest colour that readers of the first generation know
+
+
+def coloured(n, colours):
+    """a list of records whose colours both generations know, but for these: offset, byte"""
+    p = bytearray(good(LED, n))
+    for at, _ in LED.limits:
+        p[at::LED.step] = bytes(b % (FIRST_KNOWS + 1) for b in p[at::LED.step])
+    for at, b in colours.items():
+        p[at] = b
+    return case(LED, bytes(p))
+
+
+def new_colour(highest):
+    return FIRST_KNOWS + 1 + R.below(highest - FIRST_KNOWS)
+
+
+def generations(scale):
+    """colours for the first generation: no new one; one at each place of the first and of the last record; one above the highest behind or before it;
+    in a larger run also at places by chance"""
+    (first, highest), *_ = LED.limits
+    for n in (1, 2, 100):
+        yield coloured(n, {})
+        last = LED.step * (n - 1)
+        places = sorted({start + at for start in (0, last) for at, _ in LED.limits})
+        for at in places:
+            for b in (FIRST_KNOWS, FIRST_KNOWS + 1, highest, highest + 1, 0xFF):
+                yield coloured(n, {at: b})
+            for other in (first, places[-1]):
+                if other != at:
+                    yield coloured(n, {at: new_colour(highest), other: highest + 1 + R.below(0xFF - highest)})
+    for _ in range(scale if scale >= EACH else 0):
+        n = 1 + R.size(300)
+        at, other = (LED.step * R.below(n) + R.of(LED.limits)[0] for _ in range(2))
+        yield coloured(n, {})
+        yield coloured(n, {at: new_colour(highest)})
+        yield coloured(n, {at: new_colour(highest), other: highest + 1 + R.below(0xFF - highest)})
+
+
 def by_code():
     """every code byte, with no payload, with a byte, and with one that is too long"""
     for what in ("command", "reply"):
@@ -416,6 +455,7 @@ def cases(scale):
     yield from examples(of_frames=True)
     yield from (case for case, _ in frames())
     yield from texts(scale)
+    yield from generations(scale)
 
 
 for line in dict.fromkeys(cases(int(sys.argv[1]) if len(sys.argv) > 1 else 1)):

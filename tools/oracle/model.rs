@@ -10,13 +10,34 @@ pub fn block_of_zero(code: u8, len: usize) -> Refusal {
     Refusal { row: 5, code, first: 0, second: len }
 }
 
-/// The strict check of a payload that passes check: row 17 for the first byte, by offset, that reading would fold.
-pub fn strict(kind: &Kind, payload: &[u8]) -> Option<Refusal> {
-    let limits: Vec<(usize, u8)> = kind.limits().collect();
+/// The two generations of readers.
+#[derive(Clone, Copy, PartialEq, Eq)]
+pub enum Generation {
+    First,
+    Second,
+}
+
+/// The highest colour that the first generation knows.
+const FIRST_KNOWS: u8 = 4;
+
+/// The row for the first byte, by offset, that is above its highest.
+fn first_above(row: u8, kind: &Kind, payload: &[u8], limits: &[(usize, u8)]) -> Option<Refusal> {
     let record = if kind.step > 1 { kind.step } else { usize::MAX };
     let above = |&(at, &b): &(usize, &u8)| limits.iter().any(|&(place, highest)| at % record == place && b > highest);
     let (first, &b) = payload.iter().enumerate().find(above)?;
-    Some(Refusal { row: 17, code: kind.code, first, second: b.into() })
+    Some(Refusal { row, code: kind.code, first, second: b.into() })
+}
+
+/// The strict check of a payload that passes check: row 17 for the first byte, by offset, that reading would fold; and for the first generation, if
+/// there is none, row 18 for the first colour that it does not know.
+pub fn strict(kind: &Kind, payload: &[u8], generation: Generation) -> Option<Refusal> {
+    let limits: Vec<(usize, u8)> = kind.limits().collect();
+    let folded = first_above(17, kind, payload, &limits);
+    if folded.is_some() || generation == Generation::Second || kind.name != "LED" {
+        return folded;
+    }
+    let colours: Vec<(usize, u8)> = limits.iter().map(|&(place, _)| (place, FIRST_KNOWS)).collect();
+    first_above(18, kind, payload, &colours)
 }
 
 /// Record k of a list that was read; row 16 if there is none.

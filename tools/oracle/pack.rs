@@ -14,6 +14,8 @@ const FRAME_WRITE: u8 = 16;
 const ALL: usize = 0;
 const BY_CODE: usize = 1;
 const OF_KIND: usize = 2;
+/// From here on all calls; the number less this is the place of a colour, for which strict refuses the payload to the first generation by row 18.
+const NEW_COLOUR: usize = 3;
 /// Up to this many bytes are stored as they are.
 const SHORT: usize = 64;
 
@@ -56,7 +58,8 @@ fn joined(kind: &Kind, fixed: &[u8], tail: &[u8]) -> Vec<u8> {
 }
 
 /// What occurred: the number of cases, cases by class and row, and by class and code those that are accepted and those that the original refuses to
-/// write; of frames that are accepted the class, whether it is a reply, and whether it has a CRC.
+/// write; of frames that are accepted the class, whether it is a reply, and whether it has a CRC; and payloads with row 18 for the first generation alone,
+/// which are counted by the row that the second is given.
 #[derive(Default)]
 pub struct Tally {
     cases: usize,
@@ -64,6 +67,7 @@ pub struct Tally {
     accepted: BTreeMap<(u8, u8), usize>,
     differing: BTreeMap<(u8, u8), usize>,
     framed: BTreeSet<(u8, bool, bool)>,
+    new_colours: usize,
 }
 
 fn code_of_table(which: usize, byte: u8) -> u8 {
@@ -84,13 +88,33 @@ fn fields(frame: &Frame) -> [u8; 4] {
     [frame.address, frame.reply.into(), frame.sequence, frame.crc.into()]
 }
 
+/// The place that row 18 names, if strict refuses the payload to the first generation alone.
+fn new_colour(answer: &Answer, payload: &[u8]) -> Option<usize> {
+    match answer {
+        Answer::Read { kind, strict: second, first: Some(e), .. } if *second != Some(*e) => {
+            assert!((e.row, e.code, e.second) == (18, kind.code, payload[e.first].into()), "the first generation's refusal is not row 18");
+            Some(e.first)
+        }
+        Answer::Read { strict, first, .. } => {
+            assert!(strict == first, "the first generation takes what the second does not");
+            None
+        }
+        _ => None,
+    }
+}
+
 /// Class, code, argument and input.
 fn asked<'a>(case: &'a Case, answer: &Answer, row: u8) -> (u8, u8, usize, Cow<'a, [u8]>) {
     match case {
         Case::Table(which, b) => (0, code_of_table(*which, *b), *which, Cow::Owned(vec![*b])),
         Case::Guard(which, n, code, data) => (1 + *which as u8, *code, *n, data.into()),
         Case::Payload { side, of_kind, code, payload } => {
-            let calls = if *of_kind { OF_KIND } else if [1, 2, 14, 28].contains(&row) { BY_CODE } else { ALL };
+            let calls = match new_colour(answer, payload) {
+                _ if *of_kind => OF_KIND,
+                Some(place) => NEW_COLOUR + place,
+                None if [1, 2, 14, 28].contains(&row) => BY_CODE,
+                None => ALL,
+            };
             (5 + *side as u8, *code, calls, payload.into())
         }
         Case::Write { side, code, fixed, tail } => (7 + *side as u8, *code, fixed.len(), [&fixed[..], tail].concat().into()),
@@ -125,6 +149,9 @@ pub fn pack(out: &mut Vec<u8>, tally: &mut Tally, case: &Case, answer: &Answer) 
     }
     put(out, class, code, argument, &input, e, &output);
     tally.count(class, code, e.row, differs);
+    if matches!(case, Case::Payload { .. }) && argument >= NEW_COLOUR {
+        tally.new_colours += 1;
+    }
     if let (Case::Frame(_), Answer::Framed(frame, _)) | (Case::FrameWrite { frame, .. }, Answer::Gave(_)) = (case, answer) {
         tally.framed.insert((class, frame.reply, frame.crc));
     }
@@ -166,7 +193,9 @@ impl Tally {
             *rows.entry(row).or_default() += n;
         }
         let said: Vec<String> = rows.iter().map(|(row, n)| format!("{row}: {n}")).collect();
-        eprintln!("{} cases; by row, 0 for none: {}", self.cases, said.join(", "));
+        let new = self.new_colours;
+        let first = if new > 0 { format!("; row 18 for the first generation: {new}") } else { String::new() };
+        eprintln!("{} cases; by row, 0 for none: {}{first}", self.cases, said.join(", "));
         rows
     }
 
@@ -193,6 +222,7 @@ impl Tally {
             let never = |k: &&Kind| !self.accepted.contains_key(&(class + k.side as u8, k.code));
             lacking.extend(KINDS.iter().filter(never).map(|k| format!("{} {what}", k.name)));
         }
+        lacking.extend((self.new_colours == 0).then(|| "row 18".to_string()));
         lacking.extend(self.frames_lacking());
         lacking.extend(self.differences());
         is_none(&lacking)

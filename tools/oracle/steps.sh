@@ -31,7 +31,7 @@ differences=$(grep -cE '^[^#].*~' "$root/tools/kinds.txt") || true
 
 # Whether a file has the oracle's tally of so many cases, in one line, lines for so many differences, which occurred, and nothing else.
 tallied() {
-    local tally="^$2 cases; by row, 0 for none: [0-9]+: [0-9]+(, [0-9]+: [0-9]+)*$"
+    local tally="^$2 cases; by row, 0 for none: [0-9]+: [0-9]+(, [0-9]+: [0-9]+)*(; row 18 for the first generation: [1-9][0-9]*)?$"
     local named='^[A-Z]+ address above [0-9A-F]{2}, which the original refuses to write: [1-9][0-9]* normalised, [1-9][0-9]* written$'
     [ "$(grep -cE "$tally" "$1") $(grep -cE "$named" "$1") $(wc -l <"$1")" = "1 $3 $((1 + $3))" ]
 }

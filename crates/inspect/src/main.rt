@@ -18,9 +18,10 @@ fn help(rt: &impl Print) -> io::Result<()> {
           reply 50 00001A0012345680   # RAW of 26 bits\n\n\
           Blank lines, and what stands after a #, are passed over. A payload may have 65,547 bytes, one more than the\n\
           library takes.\n\n\
-          Shown are the kind and the record, field by field; the strict check's first complaint; the normalised bytes\n\
-          where they differ; or the refusal: its row, its two numbers and what it means. A line that is no payload is\n\
-          named with the column where it goes wrong, and the rest goes on.\n",
+          Shown are the kind and the record, field by field; the strict check's first complaint for readers of the\n\
+          second generation, and for those of the first where it is another one; the normalised bytes where they\n\
+          differ; or the refusal: its row, its two numbers and what it means. A line that is no payload is named with\n\
+          the column where it goes wrong, and the rest goes on.\n",
     )
 }
 

@@ -5,7 +5,7 @@ use inspect_form::names;
 use inspect_form::sentences::sentence;
 use inspect_form::shown::Hex;
 use inspect_line::{Head, Line};
-use led::LedRecord;
+use led::{Generation, LedRecord};
 use lists::ListRecord;
 use osdp::{Kind, Side};
 use output::OutputRecord;
@@ -51,13 +51,26 @@ fn records<W: Write>(kind: Kind, p: &[u8], tail: &[u8], out: &mut W) -> io::Resu
     Ok(())
 }
 
-// The strict check's first complaint.
-fn strict<W: Write>(head: Head, p: &[u8], out: &mut W) -> io::Result<()> {
-    if let Err(e) = osdp::strict(head.side, head.code, p) {
-        write!(out, "  strict: ")?;
-        refusal(e, out)?;
+// The strict check's first complaint, under a heading.
+fn complaint<W: Write>(heading: &str, checked: Result<(), Refusal>, out: &mut W) -> io::Result<()> {
+    match checked {
+        Ok(()) => Ok(()),
+        Err(e) => {
+            write!(out, "  {heading}: ")?;
+            refusal(e, out)
+        }
     }
-    Ok(())
+}
+
+// What the strict check says for the second generation, and for the first where that is something else.
+fn strict<W: Write>(head: Head, p: &[u8], out: &mut W) -> io::Result<()> {
+    let second = osdp::strict(head.side, head.code, p, Generation::Second);
+    let first = osdp::strict(head.side, head.code, p, Generation::First);
+    complaint("strict", second, &mut *out)?;
+    if first == second {
+        return Ok(());
+    }
+    complaint("strict, first generation", first, out)
 }
 
 // The normalised bytes, where they are not the payload's.

@@ -27,6 +27,8 @@ pub fn sentence(row: Row) -> &'static str
         Row::BufferTooShort => "output buffer too short (needed, given)",
         Row::NoSuchRecord => "no such record (record, how many)",
         Row::Folded => "byte that reading would fold (offset, byte)",
+        Row::SecondGenerationColor =>
+            "colour that the first generation does not know (offset, byte)",
         Row::NotAFrame => "not a frame's first byte, control byte, address or sequence",
         Row::WrongCheck => "wrong check of a frame",
         Row::FrameTooLong => "above the house limit",

@@ -1,13 +1,16 @@
 -- osdp_LED (0x69), R4.1, §6.9, Tables 16 to 18: records of 14 bytes. Reader and LED; temporary control, on time, off time, on colour, off colour
 -- and timer u16; permanent control, on time, off time, on colour and off colour.
 use Rattle.std.specs.Prelude.{List, [], ◌∷◌, ◌++◌, ℕ, ◌*◌, cond, ltb, length, drop, Option, None, Some}
-use Rattle.payload_util.specs.Prelude.{byte_at, u16_at, u16_bytes, positive_multiple_of, named, Keep, any, up_to, Loss, above_in_each, limited, in_order, Guard, Form, listed}
+use Rattle.payload_util.specs.Prelude.{byte_at, u16_at, u16_bytes, positive_multiple_of, named, Keep, any, up_to, Loss, above_in_each, limited, within_limits, in_order, ◌also◌, Guard, Form, listed}
 use Rattle.payload_util.specs.declared.Row.{Row}
+use Rattle.payload_util.specs.declared.Row.TheVariants.{Folded, SecondGenerationColor}
 use Rattle.led.specs.declared.LedColor.{LedColor}
+use Rattle.led.specs.declared.Generation.{Generation}
 use Rattle.led.specs.declared.LedTemporary.{LedTemporary}
 use Rattle.led.specs.declared.LedPermanent.{LedPermanent}
 use Rattle.led.specs.declared.LedRecord.{LedRecord}
 use Rattle.led.specs.declared.LedColor.TheVariants.{Black, Red, Green, Amber, Blue, Magenta, Cyan, White}
+use Rattle.led.specs.declared.Generation.TheVariants.{First, Second}
 
 -- Table 18, R3.4
 abbrev pub color_byte : LedColor → ℕ
@@ -27,8 +30,10 @@ color_codes = Black ∷ Red ∷ Green ∷ Amber ∷ Blue ∷ Magenta ∷ Cyan �
 unfoldable pub color_of : ℕ → LedColor
 color_of b = named color_byte (λ c. c) Black color_codes b
 
-abbrev pub highest_color : ℕ
-highest_color = 7
+-- the highest colour that a generation of readers knows (R104); reading keeps what the second knows
+abbrev pub highest_color : Generation → ℕ
+highest_color First = color_byte Blue
+highest_color Second = color_byte White
 
 abbrev pub led_code : ℕ
 led_code = 0x69
@@ -83,6 +88,16 @@ led_loss highest = above_in_each 14 (led_limits highest)
 unfoldable pub record_within : Row → ℕ → List ℕ → ℕ → Guard
 record_within row highest p k = in_order (limited row led_code (led_loss highest) p) (14 * k) 14
 
+-- the row for the first colour of the payload, by offset, that is above the highest
+abbrev pub colors_within : Row → ℕ → List ℕ → Guard
+colors_within row highest p = within_limits row led_code (led_loss highest) p
+
+-- strict's rule for colours (R5.6, R104): row 17 for one that the second generation does not know, and for the first generation then row 18 for one
+-- that it does not know
+abbrev pub colors_known : Generation → List ℕ → Guard
+colors_known Second p = colors_within Folded (highest_color Second) p
+colors_known First p = colors_within Folded (highest_color Second) p also colors_within SecondGenerationColor (highest_color First) p
+
 abbrev pub leds : Form
 leds = listed (record {
   code = led_code;
@@ -90,5 +105,5 @@ leds = listed (record {
   check = positive_multiple_of 14;
   fields = led_of;
   bytes = led_bytes;
-  loss = led_loss highest_color;
+  loss = led_loss (highest_color Second);
 })

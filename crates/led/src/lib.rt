@@ -3,10 +3,10 @@
 
 ghost use Rattle.std.specs.Prelude.{◌≡◌, ◌*◌, ◌/◌, ◌≤◌, ◌<◌, length, refl};
 ghost use Rattle.std.proofs.Common.{lit<};
-ghost use Rattle.payload_util.specs.Prelude.{keep, times, within_limits};
-ghost use Rattle.payload_util.specs.declared.Row.TheVariants.{Folded};
-ghost use Rattle.led.specs.Led.{color_byte, color_of, highest_color};
-ghost use Rattle.led.specs.Led.{temporary_of, permanent_of, led_of, led_bytes, led_code, led_at, led_limits, led_loss, record_within, leds};
+ghost use Rattle.payload_util.specs.Prelude.{keep, times};
+ghost use Rattle.led.specs.Led.{color_byte, color_of, highest_color, temporary_of, permanent_of, led_of, led_bytes, led_code, led_at};
+ghost use Rattle.led.specs.Led.{led_limits, led_loss, record_within, colors_within, colors_known, leds};
+ghost use Rattle.led.specs.declared.Generation.TheVariants.{First, Second};
 
 use lists::{ListRecord, put_at};
 use payload_util::{
@@ -28,8 +28,6 @@ pub enum LedColor {
 }
 
 impl LedColor {
-    const HIGHEST: u8 = LedColor::White as u8;
-
     // By its name in the Rust, with no `From` beside it. An unknown colour becomes Black.
     #[tactic(auto, unfolding(crate::specs::Led::color_of))]
     pub fn from_byte(b: u8) -> LedColor
@@ -52,6 +50,24 @@ impl LedColor {
         ensures { result ≡ color_byte self }
     {
         self as u8
+    }
+}
+
+// Two generations of readers, which differ in the colours that they know: the first those up to Blue, the second all.
+#[derive(Clone, Copy, Debug, PartialEq, Eq)]
+pub enum Generation {
+    First,
+    Second,
+}
+
+impl Generation {
+    pub fn highest_color(self) -> u8
+        ensures { result ≡ highest_color self }
+    {
+        match self {
+            Generation::First => LedColor::Blue.as_byte(),
+            Generation::Second => LedColor::White.as_byte(),
+        }
     }
 }
 
@@ -243,20 +259,21 @@ impl LedRecord {
         Some(Self::fields(part))
     }
 
-    // Folds the colours of a record: one above the highest becomes Black.
+    // Folds the colours of a record: one that the second generation does not know becomes Black.
     fn fold(bytes: &mut [u8])
         requires { 14 ≤ length bytes.old }
-        ensures { bytes.new ≡ keep (led_limits highest_color) bytes.old }
+        ensures { bytes.new ≡ keep (led_limits (highest_color Second)) bytes.old }
     {
-        bytes[5] = folded(bytes[5], LedColor::HIGHEST);
-        bytes[6] = folded(bytes[6], LedColor::HIGHEST);
-        bytes[12] = folded(bytes[12], LedColor::HIGHEST);
-        bytes[13] = folded(bytes[13], LedColor::HIGHEST);
+        let highest = Generation::Second.highest_color();
+        bytes[5] = folded(bytes[5], highest);
+        bytes[6] = folded(bytes[6], highest);
+        bytes[12] = folded(bytes[12], highest);
+        bytes[13] = folded(bytes[13], highest);
     }
 
     // Folds the colours of all records. By number, since of a slice lent in chunks it is not known what it ends as.
     fn fold_all(p: &mut [u8])
-        ensures { p.new ≡ keep (times (length p.old / 14) (led_limits highest_color)) p.old }
+        ensures { p.new ≡ keep (times (length p.old / 14) (led_limits (highest_color Second))) p.old }
     {
         for k in 0..p.len() / Self::WIRE_LEN {
             let start = k * Self::WIRE_LEN;
@@ -281,7 +298,7 @@ impl LedRecord {
     // highest colour and the row are parameters, as in the law.
     #[tactic(auto, using(payload_util::proofs::Guards::passed, payload_util::proofs::Guards::refused, payload_util::proofs::InOrder::more, payload_util::proofs::InOrder::stop, payload_util::proofs::InOrder::done, crate::proofs::Limits::all_records))]
     fn colors_within(p: &[u8], highest: u8, row: Row) -> Result<(), Refusal>
-        ensures { result ≡ within_limits row led_code (led_loss highest) p.now }
+        ensures { result ≡ colors_within row highest p.now }
     {
         for k in 0..Self::count(p) {
             Self::record_within(p, k, highest, row)?;
@@ -289,10 +306,17 @@ impl LedRecord {
         Ok(())
     }
 
-    // Row 17 for the first colour of the payload, by offset, that reading would fold.
-    pub fn within_limits(p: &[u8]) -> Result<(), Refusal>
-        ensures { result ≡ within_limits Folded led_code (led_loss highest_color) p.now }
+    // Row 17 for the first colour of the payload, by offset, that reading would fold; for the first generation, if there is none, row 18 for the
+    // first that it does not know.
+    pub fn within_limits(p: &[u8], generation: Generation) -> Result<(), Refusal>
+        ensures { result ≡ colors_known generation p.now }
     {
-        Self::colors_within(p, LedColor::HIGHEST, Row::Folded)
+        Self::colors_within(p, Generation::Second.highest_color(), Row::Folded)?;
+        match generation {
+            Generation::First => {
+                Self::colors_within(p, generation.highest_color(), Row::SecondGenerationColor)
+            }
+            Generation::Second => Ok(()),
+        }
     }
 }

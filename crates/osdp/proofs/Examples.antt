@@ -18,7 +18,7 @@ use Rattle.osdp.specs.declared.Kind.TheVariants.{Led, Out}
 use Rattle.osdp.specs.Kinds.{form, kind_of}
 use Rattle.osdp.specs.ByCode.{not_too_long, kind_for}
 use Rattle.osdp.specs.Starred.{RefusedAs, AllHold, none, ◌and◌}
-use Rattle.osdp.specs.Examples.{row_examples, order_examples, code_examples, unstarred, distinct_led, field_examples, refusal_examples, number_examples}
+use Rattle.osdp.specs.Examples.{row_examples, order_examples, generation_examples, code_examples, unstarred, distinct_led, field_examples, refusal_examples, number_examples}
 use Rattle.osdp.proofs.Starred.{one, both, empty}
 use Rattle.payload_util.specs.declared.Row.TheVariants.{PayloadNotMultiple, UnknownOutputCode}
 
@@ -38,12 +38,17 @@ pub rows_hold : AllHold row_examples
 unfolding row_examples kind_for kind_of not_too_long read_command read_reply in_order exact_len at_least blocks_from declared_len at_most tail_len room present color_of read_output_code codes_known read_text_command printable text_shape bio_type_of bio_format_of check_template read_nak_error within_limits
 rows_hold =
     refl and refl and refl and refl and empty and refl and unknown and refl and refl and refl and refl and refl and refl and refl
-    and refl and refl and refl and refl and none
+    and refl and refl and refl and refl and refl and none
 
 pub orders_hold : AllHold order_examples
 unfolding order_examples kind_for kind_of not_too_long read_command read_reply in_order exact_len at_least blocks_from declared_len at_most tail_len room present color_of read_output_code codes_known read_text_command printable text_shape bio_type_of bio_format_of check_template read_nak_error within_limits
 orders_hold =
     refl and refl and refl and refl and refl and refl and refl and three_bytes and refl and refl and none
+
+pub generations_hold : AllHold generation_examples
+unfolding generation_examples kind_for kind_of not_too_long read_command in_order exact_len blocks_from within_limits
+generations_hold =
+    refl and refl and refl and refl and refl and refl and refl and refl and refl and refl and refl and refl and refl and none
 
 pub codes_hold : AllHold code_examples
 unfolding code_examples kind_for kind_of not_too_long read_command read_reply in_order exact_len at_least blocks_from declared_len at_most tail_len room present color_of read_output_code codes_known read_text_command printable text_shape bio_type_of bio_format_of check_template read_nak_error within_limits
@@ -71,4 +76,4 @@ refusals_hold =
 pub numbers_hold : AllHold number_examples
 unfolding number_examples
 numbers_hold =
-    refl and refl and refl and refl and refl and refl and refl and refl and refl and refl and refl and refl and refl and refl and refl and refl and refl and refl and refl and refl and refl and none
+    refl and refl and refl and refl and refl and refl and refl and refl and refl and refl and refl and refl and refl and refl and refl and refl and refl and refl and refl and refl and refl and refl and none

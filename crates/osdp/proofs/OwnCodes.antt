@@ -8,11 +8,12 @@ use borrow.Author.Tests.{eqb-true}
 use lib.Dec.{eqb}
 use Rattle.payload_util.specs.Outcome.{named}
 use Rattle.payload_util.specs.Writing.{rewrite}
-use Rattle.payload_util.specs.Form.{code, check as check_of, strict as strict_of, normalise as normalise_of}
+use Rattle.payload_util.specs.Form.{code, check as check_of, normalise as normalise_of}
 use Rattle.payload_util.proofs.Guards.{no_refusal}
 use Rattle.osdp.specs.declared.Side.{Side}
 use Rattle.osdp.specs.declared.Kind.{Kind}
 use Rattle.osdp.specs.Kinds.{form, kinds, in_table, carried, kind_of, ◌then◌}
+use Rattle.osdp.specs.ByCode.{strict_of}
 use Rattle.osdp.specs.Promises.{side_and_code, OwnCode, OwnCodes}
 use Rattle.osdp.proofs.Laws.{own_code, OnSide, kinds_on_side}
 use Rattle.osdp.proofs.Lookups.{by_kind}
@@ -26,7 +27,7 @@ own k side b is named = (
   λ p out short.
       let found = by_kind side b p k named short in (
         ap (λ (o : Outcome Kind). o then λ j. check_of (form j) p) found,
-        ap (λ (o : Outcome Kind). o then λ j. strict_of (form j) p) found,
+        λ g. ap (λ (o : Outcome Kind). o then λ j. strict_of g j p) found,
         ap (λ (o : Outcome Kind). rewrite o (λ j. normalise_of (form j) p out) out) found,
       ),
 )

@@ -10,34 +10,37 @@ use Rattle.payload_util.specs.Refusals.{◌also◌, Outcome, Guard, Pass}
 use Rattle.payload_util.specs.Guards.{room}
 use Rattle.payload_util.specs.Writing.{Effect, effect, room_last, put_checked, rewrite}
 use Rattle.payload_util.specs.Loss.{limits, without, limited, within_limits}
-use Rattle.payload_util.specs.Form.{code, loss, check as check_of, strict as strict_of, normalise as normalise_of}
+use Rattle.payload_util.specs.Form.{code, loss, check as check_of, normalise as normalise_of}
 use Rattle.payload_util.specs.declared.Refusal.{Refusal}
 use Rattle.payload_util.proofs.Guards.{no_refusal, check_pass, also_pass, pass_room}
 use Rattle.payload_util.proofs.InOrder.{all_pass}
 use Rattle.payload_util.proofs.Losses.{without_le, kept_all, kept_whole}
 use Rattle.payload_util.proofs.Scheme.{wrote, counted, normalise_is}
+use Rattle.led.specs.declared.Generation.{Generation}
+use Rattle.led.specs.declared.Generation.TheVariants.{Second}
 use Rattle.osdp.specs.declared.Side.{Side}
 use Rattle.osdp.specs.declared.Kind.{Kind}
 use Rattle.osdp.specs.declared.Kind.TheVariants.{Nak}
 use Rattle.osdp.specs.Kinds.{form, kind_of}
 use Rattle.payload_util.specs.declared.Row.TheVariants.{Folded}
-use Rattle.osdp.specs.ByCode.{kind_for, check, strict, normalise}
+use Rattle.osdp.specs.ByCode.{kind_for, check, added, strict_of, strict, normalise}
 use Rattle.osdp.specs.Signed.{Short}
 use Rattle.osdp.specs.Promises.{LosesNothing, Promises}
-use Rattle.osdp.proofs.Laws.{law, uncut, no_limits}
+use Rattle.osdp.proofs.Laws.{law, uncut, no_limits, second_alike, second_passes}
 use Rattle.osdp.proofs.Lookups.{by_kind, kind_gives}
 use Rattle.std.specs.Prelude.{Ok, Err}
 
 -- ---- what strict passes is kept whole
 
-unchanged : (k : Kind) (p : List ℕ) → (k ≡ Nak → ⊥) → within_limits Folded (code (form k)) (loss (form k)) p ≡ Pass → without (loss (form k)) p ≡ p
+unchanged : (g : Generation) (k : Kind) (p : List ℕ) → (k ≡ Nak → ⊥) → added g k p ≡ Pass → without (loss (form k)) p ≡ p
 unfolding within_limits
-unchanged k p n e =
+unchanged g k p n passes =
+    let e : within_limits Folded (code (form k)) (loss (form k)) p ≡ Pass = sym (second_alike k p) ∙ second_passes g k p passes in
     kept_whole (loss (form k)) p (uncut k p (λ is. absurd (n is))) (kept_all (limits (loss (form k)) p) p
     (λ at lt. check_pass _ _ (all_pass (limited Folded (code (form k)) (loss (form k)) p) (length p) e at lt)))
 
 pub loses_nothing : LosesNothing
-loses_nothing k l r m s n p = unchanged k p n (no_limits k l r m s p)
+loses_nothing k l r m s n p = unchanged Second k p n (no_limits Second k l r m s p)
 
 -- ---- writing
 
@@ -87,14 +90,14 @@ module _ (side : Side) (c : ℕ) (p out : List ℕ) (b : Bytes p) where
   refused e (Ok k) q h = let h' : check_of (form k) p ≡ Err e = rw q at h in rw q (simp h')
   refused e (Err r) q h = let h' : Err r ≡ Err e = rw q at h in rw q (let same : r ≡ e = cc in rw same)
 
-  three : (o : Outcome Kind) → kind_for side c p ≡ o → strict side c p ≡ Pass → (kind_of side c ≡ Ok Nak → ⊥)
+  three : (g : Generation) (o : Outcome Kind) → kind_for side c p ≡ o → strict side c p g ≡ Pass → (kind_of side c ≡ Ok Nak → ⊥)
       → length p ≤ length out → normalise side c p out ≡ (Ok (length p), p ++ drop (length p) out)
-  three (Ok k) e s n room =
-      let s' : strict_of (form k) p ≡ Pass = rw e at s in
-      let (g, f) = also_pass (check_of (form k) p) (within_limits Folded (code (form k)) (loss (form k)) p) s' in
-      let whole = unchanged k p (λ is. n ((kind_gives side c p k e).0 ∙ ap Ok is)) f in
-      rw e (normal k p out b ∙ simp (g, whole, pass_room (code (form k)) (length p) (length out) room))
-  three (Err r) e s n room = absurd (no_refusal (sym (rw e at s)))
+  three g (Ok k) e s n room =
+      let s' : strict_of g k p ≡ Pass = rw e at s in
+      let (accepted, rest) = also_pass (check_of (form k) p) (added g k p) s' in
+      let whole = unchanged g k p (λ is. n ((kind_gives side c p k e).0 ∙ ap Ok is)) rest in
+      rw e (normal k p out b ∙ simp (accepted, whole, pass_room (code (form k)) (length p) (length out) room))
+  three g (Err r) e s n room = absurd (no_refusal (sym (rw e at s)))
 
   -- a count that C is told fits
   short : (o : Outcome Kind) → kind_for side c p ≡ o → Short (rewrite o (λ k. normalise_of (form k) p out) out).0
@@ -111,7 +114,7 @@ promises_hold side c p out b =
       (λ room. one side c p out b room o refl),
       (λ n w. two side c p out b n o refl w),
       (λ e h. refused side c p out b e o refl h),
-      (λ s n room. three side c p out b o refl s n room),
+      (λ g s n room. three side c p out b g o refl s n room),
     )
 
 pub normalise_short : (side : Side) (c : ℕ) (p out : List ℕ) → Bytes p → Short (normalise side c p out).0

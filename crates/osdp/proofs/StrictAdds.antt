@@ -10,15 +10,17 @@ use Rattle.payload_util.proofs.Scheme.{leaves, rewrite_leaves, normalise_leaves}
 use Rattle.osdp.specs.Kinds.{form}
 use Rattle.osdp.specs.ByCode.{kind_for}
 use Rattle.osdp.specs.Promises.{Steady, StrictAdds, Untouched}
-use Rattle.osdp.proofs.Laws.{law, no_limits}
+use Rattle.osdp.proofs.Laws.{law, no_limits, second_alike}
 
 pub steady : Steady
 steady k p = (law k).steady p
 
 pub strict_adds : StrictAdds
 strict_adds = (
-  (λ k p passes kept. simp (passes, none_folded Folded (code (form k)) (loss (form k)) p kept)),
-  (λ k l r m s p. ap (λ (g : Guard). check (form k) p also g) (no_limits k l r m s p) ∙ also_none (check (form k) p)),
+  (λ k p passes kept.
+      ap (λ (h : Guard). check (form k) p also h) (second_alike k p ∙ none_folded Folded (code (form k)) (loss (form k)) p kept)
+      ∙ also_none (check (form k) p) ∙ passes),
+  (λ g k l r m s p. ap (λ (h : Guard). check (form k) p also h) (no_limits g k l r m s p) ∙ also_none (check (form k) p)),
 )
 
 pub untouched : Untouched

@@ -1,7 +1,8 @@
 -- Examples beside the starred ones: each is what docs/REQUIREMENTS.md says, and is proved of the definitions.
-use Rattle.std.specs.Prelude.{replicate, pos, negsuc, List, [], ◌∷◌, Ok, Err}
+use Rattle.std.specs.Prelude.{replicate, pos, negsuc, List, [], ◌∷◌, ◌++◌, ℕ, Ok, Err}
 use Rattle.led.specs.declared.LedRecord.{LedRecord}
 use Rattle.led.specs.declared.LedColor.TheVariants.{Green, Amber, Cyan, White}
+use Rattle.led.specs.declared.Generation.TheVariants.{First, Second}
 use Rattle.text.specs.declared.TextCommand.TheVariants.{PermanentNoWrap, TemporaryNoWrap}
 use Rattle.biometric.specs.declared.BioType.TheVariants.{RightThumb, RightLittle}
 use Rattle.biometric.specs.declared.BioFormat.TheVariants.{FingerprintRawPgm, FingerprintAnsi378}
@@ -10,7 +11,7 @@ use Rattle.osdp.specs.declared.Side.TheVariants.{Command, Reply}
 use Rattle.osdp.specs.declared.Kind.TheVariants.{Led, Out, Text, BioRead, BioMatch, FileTransfer, Mfg, Raw, Fmt, BioReadR, BioMatchR, Nak, Xrd, Keypad, ComSet, Com, PdId, LStatR, AcuRxSize, KeepActive}
 use Rattle.osdp.specs.Starred.{Case, reads, is_refused, has_no_record, is_written, is_not_written, check_says, strict_says, normalise_gives, has_bits, is_told, is_counted, green_bytes}
 use Rattle.payload_util.specs.Refusals.{Pass, refusal}
-use Rattle.payload_util.specs.declared.Row.TheVariants.{UnknownCommand, UnknownReply, PayloadLength, PayloadTooShort, PayloadNotMultiple, DeclaredLength, UnknownOutputCode, UnprintableText, UnknownTextCommand, UnknownNakError, EmptyList, TailTooLong, TailLength, NotCarried, BufferTooShort, NoSuchRecord, Folded, NotAFrame, WrongCheck, FrameTooLong, PayloadTooLong}
+use Rattle.payload_util.specs.declared.Row.TheVariants.{UnknownCommand, UnknownReply, PayloadLength, PayloadTooShort, PayloadNotMultiple, DeclaredLength, UnknownOutputCode, UnprintableText, UnknownTextCommand, UnknownNakError, EmptyList, TailTooLong, TailLength, NotCarried, BufferTooShort, NoSuchRecord, Folded, SecondGenerationColor, NotAFrame, WrongCheck, FrameTooLong, PayloadTooLong}
 
 -- the example of each row of the refusal table (R7)
 unfoldable pub row_examples : List Case
@@ -31,7 +32,8 @@ row_examples =
     ∷ check_says Command 0x60 [] (Err (refusal NotCarried 0x60 0 0))
     ∷ is_not_written Mfg (record { oui_0 = 0x00; oui_1 = 0x06; oui_2 = 0x8E }, []) (replicate 2 0xA5) (refusal BufferTooShort 0x80 3 2)
     ∷ has_no_record Led (replicate 14 0x00) 1 (refusal NoSuchRecord 0x69 1 1)
-    ∷ strict_says Command 0x73 (0x00 ∷ 0x12 ∷ 0x00 ∷ 0x32 ∷ []) (Err (refusal Folded 0x73 1 0x12))
+    ∷ strict_says Command 0x73 (0x00 ∷ 0x12 ∷ 0x00 ∷ 0x32 ∷ []) Second (Err (refusal Folded 0x73 1 0x12))
+    ∷ strict_says Command 0x69 (green_bytes 0x05) First (Err (refusal SecondGenerationColor 0x69 5 5))
     ∷ check_says Command 0x80 (replicate 65547 0x00) (Err (refusal PayloadTooLong 0x80 65546 65547))
     ∷ []
 
@@ -42,12 +44,38 @@ order_examples =
     ∷ check_says Reply 0x42 (replicate 65547 0x00) (Err (refusal UnknownReply 0x42 0 0))
     ∷ check_says Command 0x60 (replicate 65547 0x00) (Err (refusal NotCarried 0x60 0 0))
     ∷ check_says Command 0x69 (replicate 65547 0x00) (Err (refusal PayloadTooLong 0x69 65546 65547))
-    ∷ strict_says Command 0x60 [] (Err (refusal NotCarried 0x60 0 0))
-    ∷ strict_says Command 0x80 (replicate 65547 0x00) (Err (refusal PayloadTooLong 0x80 65546 65547))
-    ∷ strict_says Command 0x73 (0x00 ∷ 0x12 ∷ 0x00 ∷ []) (Err (refusal PayloadLength 0x73 4 3))
+    ∷ strict_says Command 0x60 [] Second (Err (refusal NotCarried 0x60 0 0))
+    ∷ strict_says Command 0x80 (replicate 65547 0x00) Second (Err (refusal PayloadTooLong 0x80 65546 65547))
+    ∷ strict_says Command 0x73 (0x00 ∷ 0x12 ∷ 0x00 ∷ []) Second (Err (refusal PayloadLength 0x73 4 3))
     ∷ is_refused Out (0x03 ∷ 0x07 ∷ 0x0A ∷ []) (refusal PayloadNotMultiple 0x68 4 3)
     ∷ is_refused Text (0x00 ∷ 0x01 ∷ 0x00 ∷ 0x01 ∷ 0x01 ∷ 0x02 ∷ 0x1F ∷ []) (refusal DeclaredLength 0x6B 0 0)
     ∷ is_not_written Text (record { reader = 0; command = PermanentNoWrap; temp_time_s = 0; row = 1; column = 1 }, replicate 256 0x1F) [] (refusal UnprintableText 0x6B 0 0)
+    ∷ []
+
+-- a record with these four colours
+abbrev pub colored : ℕ → ℕ → ℕ → ℕ → List ℕ
+colored a b c d = 0x00 ∷ 0x00 ∷ 0x02 ∷ 0x05 ∷ 0x05 ∷ a ∷ b ∷ 0x64 ∷ 0x00 ∷ 0x01 ∷ 0x01 ∷ 0x00 ∷ c ∷ d ∷ []
+
+-- R104: what each generation is told
+unfoldable pub generation_examples : List Case
+generation_examples =
+    strict_says Command 0x69 (colored 4 4 4 4) First Pass
+    ∷ strict_says Command 0x69 (colored 7 7 7 7) Second Pass
+    -- a colour of the second generation alone, at each of its places
+    ∷ strict_says Command 0x69 (colored 7 4 4 4) First (Err (refusal SecondGenerationColor 0x69 5 7))
+    ∷ strict_says Command 0x69 (colored 4 6 4 4) First (Err (refusal SecondGenerationColor 0x69 6 6))
+    ∷ strict_says Command 0x69 (colored 4 4 5 4) First (Err (refusal SecondGenerationColor 0x69 12 5))
+    ∷ strict_says Command 0x69 (colored 4 4 4 5) First (Err (refusal SecondGenerationColor 0x69 13 5))
+    ∷ strict_says Command 0x69 (colored 0 1 2 3 ++ colored 4 4 4 7) First (Err (refusal SecondGenerationColor 0x69 27 7))
+    -- row 17 comes before row 18, wherever it is
+    ∷ strict_says Command 0x69 (colored 5 4 4 8) First (Err (refusal Folded 0x69 13 8))
+    ∷ strict_says Command 0x69 (colored 8 5 4 4) First (Err (refusal Folded 0x69 5 8))
+    ∷ strict_says Command 0x69 (colored 5 4 4 4 ++ colored 4 4 4 0xFF) First (Err (refusal Folded 0x69 27 0xFF))
+    -- the checks of the reader come before both
+    ∷ strict_says Command 0x69 (replicate 13 0x05) First (Err (refusal PayloadNotMultiple 0x69 14 13))
+    -- a biometric type is row 17 for both
+    ∷ strict_says Command 0x73 (0x00 ∷ 0x12 ∷ 0x00 ∷ 0x32 ∷ []) First (Err (refusal Folded 0x73 1 0x12))
+    ∷ strict_says Command 0x73 (0x00 ∷ 0x11 ∷ 0x02 ∷ 0x32 ∷ []) First Pass
     ∷ []
 
 -- R2.5: a payload of each kind under its code byte
@@ -162,6 +190,7 @@ number_examples =
     ∷ is_told (Err (refusal BufferTooShort 0 0 0)) (negsuc 14)
     ∷ is_told (Err (refusal NoSuchRecord 0 0 0)) (negsuc 15)
     ∷ is_told (Err (refusal Folded 0 0 0)) (negsuc 16)
+    ∷ is_told (Err (refusal SecondGenerationColor 0 0 0)) (negsuc 17)
     ∷ is_told (Err (refusal NotAFrame 0 0 0)) (negsuc 19)
     ∷ is_told (Err (refusal WrongCheck 0 0 0)) (negsuc 20)
     ∷ is_told (Err (refusal FrameTooLong 0 0 0)) (negsuc 21)

@@ -7,6 +7,8 @@ use Rattle.raw_card.specs.Raw.{bits_of}
 use Rattle.led.specs.declared.LedRecord.{LedRecord}
 use Rattle.led.specs.declared.LedColor.{LedColor}
 use Rattle.led.specs.declared.LedColor.TheVariants.{Black, Red, Green}
+use Rattle.led.specs.declared.Generation.{Generation}
+use Rattle.led.specs.declared.Generation.TheVariants.{Second}
 use Rattle.output.specs.declared.OutputControlCode.TheVariants.{TemporaryOnResume}
 use Rattle.text.specs.declared.TextCommand.TheVariants.{PermanentNoWrap}
 use Rattle.nak.specs.declared.NakErrorCode.TheVariants.{UnknownCommandCode, UnableToProcessCommandRecord}
@@ -31,7 +33,7 @@ pub data Case : Type 0 where
   is_written : (k : Kind) → Record (form k) → List ℕ → Case
   is_not_written : (k : Kind) → Record (form k) → List ℕ → Refusal → Case
   check_says : Side → ℕ → List ℕ → Guard → Case
-  strict_says : Side → ℕ → List ℕ → Guard → Case
+  strict_says : Side → ℕ → List ℕ → Generation → Guard → Case
   normalise_gives : Side → ℕ → List ℕ → List ℕ → Case
   has_bits : ℕ → List ℕ → List ℕ → Case
   is_told : Guard → ℤ → Case
@@ -64,7 +66,7 @@ Holds (is_written k r q) = written (form k) r (zeros q) ≡ filled q q
 Holds (is_not_written k r out e) = written (form k) r out ≡ (Err e, out)
 Holds (has_no_record k p i e) = RecordRefused (form k) p i e
 Holds (check_says side b p g) = check side b p ≡ g
-Holds (strict_says side b p g) = strict side b p ≡ g
+Holds (strict_says side b p generation g) = strict side b p generation ≡ g
 Holds (has_bits count bytes bits) = bits_of count bytes ≡ bits
 Holds (is_told g n) = answer_of g ≡ n
 Holds (is_counted w n) = count_of w ≡ n
@@ -98,10 +100,10 @@ dark = record {
 unfoldable pub starred : List Case
 starred =
     reads Led (green_bytes 0x02) (green Green ∷ [])
-    ∷ strict_says Command 0x69 (green_bytes 0x02) Pass
+    ∷ strict_says Command 0x69 (green_bytes 0x02) Second Pass
     ∷ reads Led (green_bytes 0x08) (green Black ∷ [])
     ∷ normalises Led (green_bytes 0x08) (green_bytes 0x00)
-    ∷ strict_says Command 0x69 (green_bytes 0x08) (Err (refusal Folded 0x69 5 8))
+    ∷ strict_says Command 0x69 (green_bytes 0x08) Second (Err (refusal Folded 0x69 5 8))
     ∷ is_refused Led (replicate 13 0x00) (refusal PayloadNotMultiple 0x69 14 13)
     ∷ is_refused Led [] (refusal PayloadNotMultiple 0x69 14 0)
     ∷ reads Led (replicate 28 0x00) (dark ∷ dark ∷ [])
@@ -119,7 +121,7 @@ starred =
     ∷ normalises Nak (0x03 ∷ 0xAA ∷ []) (0x03 ∷ [])
     ∷ reads Nak (0x09 ∷ 0xAA ∷ []) (record { error = UnableToProcessCommandRecord }, 0xAA ∷ [])
     ∷ normalises BioRead (0x00 ∷ 0x12 ∷ 0x03 ∷ 0x32 ∷ []) (0x00 ∷ 0x00 ∷ 0x00 ∷ 0x32 ∷ [])
-    ∷ strict_says Command 0x73 (0x00 ∷ 0x12 ∷ 0x03 ∷ 0x32 ∷ []) (Err (refusal Folded 0x73 1 0x12))
+    ∷ strict_says Command 0x73 (0x00 ∷ 0x12 ∷ 0x03 ∷ 0x32 ∷ []) Second (Err (refusal Folded 0x73 1 0x12))
     ∷ reads FileTransfer (0x01 ∷ 0x05 ∷ 0x00 ∷ 0x00 ∷ 0x00 ∷ 0x00 ∷ 0x00 ∷ 0x00 ∷ 0x00 ∷ 0x02 ∷ 0x00 ∷ 0xAB ∷ 0xCD ∷ [])
     (record { file_type = 1; total_size = 5; offset = 0 }, 0xAB ∷ 0xCD ∷ [])
     ∷ []

@@ -2,9 +2,8 @@
 use Rattle.std.specs.Prelude.{◌≡◌, ◌↔◌, List, [], ℕ, ◌*◌, ◌/◌, ◌<◌, length, get_or, take, drop, Ok}
 use Rattle.payload_util.specs.Bytes.{Bytes, each, flat}
 use Rattle.payload_util.specs.Refusals.{◌also◌, Outcome, Guard}
-use Rattle.payload_util.specs.declared.Row.TheVariants.{Folded}
 use Rattle.payload_util.specs.Guards.{not_empty, present}
-use Rattle.payload_util.specs.Loss.{Loss, without, within_limits}
+use Rattle.payload_util.specs.Loss.{Loss, without}
 use Rattle.payload_util.specs.Outcome.{outcome, tail_where}
 use Rattle.payload_util.specs.Writing.{Effect, put_checked, rewrite}
 
@@ -122,10 +121,6 @@ abbrev pub write : (f : Form) → Writing f
 write (fixed k) = λ r out. written (fixed k) r out
 write (tailed k) = λ r t out. written (tailed k) (r, t) out
 write (listed k) = λ rs out. written (listed k) rs out
-
--- the strict check: the reader's checks, then row 17 for the first byte, by offset, that reading would fold
-abbrev pub strict : Form → List ℕ → Guard
-strict f p = check f p also within_limits Folded (code f) (loss f) p
 
 -- normalise: read a payload and write the record again
 abbrev pub normalise : Form → List ℕ → List ℕ → Effect

@@ -8,4 +8,4 @@ pub use Rattle.payload_util.specs.Outcome.{named, outcome, guard_of, value_or, t
 pub use Rattle.payload_util.specs.Writing.{Effect, put, put_checked, rewrite}
 pub use Rattle.payload_util.specs.Loss.{Keep, any, up_to, keep, only_at, times, Loss, nothing, above, above_in_each, rest_unless, without, limited}
 unfoldable pub use Rattle.payload_util.specs.Loss.{within_limits}
-pub use Rattle.payload_util.specs.Form.{Form, fixed, tailed, listed, code, loss, check, whole, fields, read, tail, write, strict, normalise}
+pub use Rattle.payload_util.specs.Form.{Form, fixed, tailed, listed, code, loss, check, whole, fields, read, tail, write, normalise}

@@ -51,6 +51,8 @@ pub enum Row {
     NoSuchRecord = 16,
     // a byte that reading would fold: offset, byte
     Folded = 17,
+    // a colour that readers of the first generation do not know: offset, byte
+    SecondGenerationColor = 18,
     // the first byte, the control byte, the address or the sequence is not a frame's
     NotAFrame = 20,
     // the check of a frame is wrong

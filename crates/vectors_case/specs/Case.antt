@@ -1,6 +1,8 @@
 -- The wanted answer of a case, and the wanted buffer.
-use Rattle.std.specs.Prelude.{◌≡◌, List, ℕ, ◌≤◌, length, take, replicate, Ok, Err}
-use Rattle.payload_util.specs.Refusals.{number_of, Outcome, Guard}
+use Rattle.std.specs.Prelude.{◌≡◌, cond, List, ℕ, ◌-◌, ◌≤◌, ltb, length, take, replicate, Ok, Err}
+use Rattle.payload_util.specs.Bytes.{byte_at}
+use Rattle.payload_util.specs.Refusals.{number_of, Outcome, Guard, refusal}
+use Rattle.payload_util.specs.declared.Row.TheVariants.{SecondGenerationColor}
 use Rattle.payload_util.specs.Outcome.{outcome}
 use Rattle.payload_util.specs.Guards.{room}
 use Rattle.payload_util.specs.Writing.{Effect, room_last, put_checked}
@@ -11,6 +13,12 @@ use Rattle.vectors_case.specs.declared.Case.{Case}
 abbrev pub IsWanted : ℕ → ℕ → ℕ → ℕ → Guard → Type 0
 IsWanted number code first second (Ok _) = number ≡ 0
 IsWanted number code first second (Err e) = (number_of e.row ≡ number) × (e.code ≡ code) × (e.first ≡ first) × (e.second ≡ second)
+
+-- the wanted answer of strict for the first generation: an argument from 3 on names a place, 3 above it, and then it is row 18 for the byte there
+abbrev pub wanted_of_first : Case → Guard
+wanted_of_first c =
+    let place = c.argument - 3 in
+    cond (ltb c.argument 3) c.wanted (Err (refusal SecondGenerationColor c.code place (byte_at c.input.now place)))
 
 -- the wanted answer of a writer that is given room for so many bytes
 abbrev pub wanted_answer : Case → ℕ → Outcome ℕ

@@ -6,7 +6,7 @@ ghost use Rattle.std.specs.Fn.{FnOnceReturnsAtMut};
 ghost use Rattle.payload_util.specs.Bytes.{byte_at, u16_at, u32_at, u16_bytes, u32_bytes};
 ghost use Rattle.payload_util.specs.Refusals.{number_of, Guard, Outcome};
 ghost use Rattle.payload_util.specs.declared.Row.{Row};
-ghost use Rattle.vectors_case.specs.Case.{IsWanted, wanted_answer, wanted_effect, Tried};
+ghost use Rattle.vectors_case.specs.Case.{IsWanted, wanted_of_first, wanted_answer, wanted_effect, Tried};
 ghost use Rattle.vectors_case.specs.Buffer.{AllFrom, around, putting};
 
 use payload_util::{Refusal, Row};
@@ -57,6 +57,9 @@ pub const LED_BYTES: usize = 14;
 
 pub const OUT_BYTES: usize = 4;
 
+// The argument of a payload that the first generation is told of as no other: the place of a colour, and this number more.
+const NEW_COLOR: usize = 3;
+
 #[derive(Clone, Copy, Debug, PartialEq, Eq)]
 pub struct Case<'a> {
     pub code: u8,
@@ -83,6 +86,22 @@ impl<'a> Case<'a> {
         ensures { (result ≡ true) ↔ (g ≡ self.entry.wanted) }
     {
         g == self.wanted
+    }
+
+    // What strict has to answer for the first generation.
+    pub fn wanted_of_first(self) -> Result<(), Refusal>
+        ensures { result ≡ wanted_of_first self.entry }
+    {
+        if self.argument < NEW_COLOR {
+            return self.wanted;
+        }
+        let place = self.argument - NEW_COLOR;
+        Err(Refusal::with_values(
+            Row::SecondGenerationColor,
+            self.code,
+            place,
+            byte(self.input, place) as usize,
+        ))
     }
 
     // Fills the whole buffer with the case's byte. False if it is shorter than the case's room.
@@ -207,6 +226,7 @@ fn row_of(number: u8) -> Option<Row>
         15 => Some(Row::BufferTooShort),
         16 => Some(Row::NoSuchRecord),
         17 => Some(Row::Folded),
+        18 => Some(Row::SecondGenerationColor),
         20 => Some(Row::NotAFrame),
         21 => Some(Row::WrongCheck),
         22 => Some(Row::FrameTooLong),

@@ -1,7 +1,10 @@
 // Classes 5 and 6: a payload, read, checked and written again, by its code byte and by its kind.
 ghost use Rattle.std.specs.Prelude.{◌≡◌, ◌⊎◌, true};
+ghost use Rattle.led.specs.declared.Generation.TheVariants.{First, Second};
 ghost use Rattle.osdp.specs.ByCode.{strict};
+ghost use Rattle.vectors_case.specs.Case.{wanted_of_first};
 
+use led::Generation;
 use osdp::{Kind, Side};
 use payload_util::{Refusal, Row};
 use vectors_case::{
@@ -10,19 +13,21 @@ use vectors_case::{
 };
 use vectors_kind::reader;
 
-// Arguments: the calls that are asked for.
+// Arguments: the calls that are asked for. Any other number asks for all.
 const BY_CODE: usize = 1;
 
 const OF_KIND: usize = 2;
 
 pub fn run(side: Side, c: Case, out: &mut [u8]) -> bool
-    ensures { (result ≡ true) → (c.entry.argument ≡ 2) ⊎ (strict side c.entry.code c.entry.input.now ≡ c.entry.wanted) }
+    ensures second { (result ≡ true) → (c.entry.argument ≡ 2) ⊎ (strict side c.entry.code c.entry.input.now Second ≡ c.entry.wanted) }
+    ensures first { (result ≡ true) → (c.entry.argument ≡ 2) ⊎ (strict side c.entry.code c.entry.input.now First ≡ wanted_of_first c.entry) }
 {
     by_code(side, c, &mut *out) && of_kind(side, c, out)
 }
 
 fn by_code(side: Side, c: Case, out: &mut [u8]) -> bool
-    ensures { (result ≡ true) → (c.entry.argument ≡ 2) ⊎ (strict side c.entry.code c.entry.input.now ≡ c.entry.wanted) }
+    ensures second { (result ≡ true) → (c.entry.argument ≡ 2) ⊎ (strict side c.entry.code c.entry.input.now Second ≡ c.entry.wanted) }
+    ensures first { (result ≡ true) → (c.entry.argument ≡ 2) ⊎ (strict side c.entry.code c.entry.input.now First ≡ wanted_of_first c.entry) }
 {
     if c.argument == OF_KIND {
         return true;
@@ -30,7 +35,8 @@ fn by_code(side: Side, c: Case, out: &mut [u8]) -> bool
     let (code, p) = (c.code, c.input);
     let read = reading(c);
     finds(c, osdp::kind_of(side, code))
-        && c.guards(osdp::strict(side, code, p))
+        && c.guards(osdp::strict(side, code, p, Generation::Second))
+        && osdp::strict(side, code, p, Generation::First) == c.wanted_of_first()
         && read.guards(osdp::check(side, code, p))
         && read.writes_wanted(out, |room| Some(osdp::normalise(side, code, p, room)))
 }
