@@ -7,11 +7,10 @@ use native.Mathlib.Numerals.{add-one}
 use lib.ListN.{take, drop}
 use Rattle.payload_util.specs.Loss.{Keep, keep, times}
 use Rattle.payload_util.proofs.Folds.{keep_append, keep_front, times_next, length_times}
-use Rattle.led.specs.declared.Generation.TheVariants.{Second}
 use Rattle.led.specs.Led.{highest_color, led_limits}
 
 abbrev limits : List Keep
-limits = led_limits (highest_color Second)
+limits = led_limits highest_color
 
 -- o is the payload as it came, and q as it is now; one record more, in the w bytes that are lent
 pub next_folded : (o q e : List ℕ) (k w : ℕ) → w ≡ 14 → q ≡ keep (times k limits) o → e ≡ keep limits (take w (drop (k * 14) q))

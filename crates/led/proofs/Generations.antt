@@ -13,7 +13,7 @@ use Rattle.payload_util.specs.declared.Row.TheVariants.{Folded, SecondGeneration
 use Rattle.payload_util.proofs.Limits.{row_given}
 use Rattle.led.specs.declared.Generation.{Generation}
 use Rattle.led.specs.declared.Generation.TheVariants.{First, Second}
-use Rattle.led.specs.Led.{led_code, led_loss, highest_color, colors_within, colors_known}
+use Rattle.led.specs.Led.{led_code, led_loss, highest_known, colors_within, colors_known}
 use Rattle.led.specs.Promises.{NewColor, RowEighteen}
 use Rattle.led.proofs.Limits.{none_above, above_none, above_first, first_above}
 
@@ -24,25 +24,25 @@ second_gives (Err r) h e not w = absurd (not w)
 
 module _ (p : List ℕ) (e : Refusal) (records : length p ≡ length p / 14 * 14) (row : e.row ≡ SecondGenerationColor) where
   abbrev within : Row → Generation → Guard
-  within r g = colors_within r (highest_color g) p
+  within r g = colors_within r (highest_known g) p
 
   not_folded : within Folded Second ≡ Err e → ⊥
   not_folded w =
-      let same : Folded ≡ SecondGenerationColor = sym (row_given Folded led_code (led_loss (highest_color Second)) p e w) ∙ row in
+      let same : Folded ≡ SecondGenerationColor = sym (row_given Folded led_code (led_loss (highest_known Second)) p e w) ∙ row in
       let numbers : ◌≡◌ {A = ℕ} 17 18 = ap number_of same in
       omega arith
 
   given : (g : Generation) → colors_known g p ≡ Err e → (g ≡ First) × NewColor p e
   given First w =
       let (none, some) = second_gives (within Folded Second) (within SecondGenerationColor First) e not_folded w in
-      let (at, same, first) = first_above SecondGenerationColor (highest_color First) p records e some in
-      (refl, (none_above Folded (highest_color Second) p records none, (at, sym same, first)))
+      let (at, same, first) = first_above SecondGenerationColor (highest_known First) p records e some in
+      (refl, (none_above Folded (highest_known Second) p records none, (at, sym same, first)))
   given Second w = absurd (not_folded w)
 
   refused : NewColor p e → colors_known First p ≡ Err e
   refused (none, (at, same, first)) =
-      simp (above_none Folded (highest_color Second) p records none)
-      (above_first SecondGenerationColor (highest_color First) p records at first ∙ ap Err (sym same))
+      simp (above_none Folded (highest_known Second) p records none)
+      (above_first SecondGenerationColor (highest_known First) p records at first ∙ ap Err (sym same))
 
 pub row_eighteen : RowEighteen
 row_eighteen g p e records row = (

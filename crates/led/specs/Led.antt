@@ -30,10 +30,13 @@ color_codes = Black ∷ Red ∷ Green ∷ Amber ∷ Blue ∷ Magenta ∷ Cyan �
 unfoldable pub color_of : ℕ → LedColor
 color_of b = named color_byte (λ c. c) Black color_codes b
 
--- the highest colour that a generation of readers knows (R104); reading keeps what the second knows
-abbrev pub highest_color : Generation → ℕ
-highest_color First = color_byte Blue
-highest_color Second = color_byte White
+abbrev pub highest_color : ℕ
+highest_color = 7
+
+-- the highest colour that a generation of readers knows (R104)
+abbrev pub highest_known : Generation → ℕ
+highest_known First = 4
+highest_known Second = highest_color
 
 abbrev pub led_code : ℕ
 led_code = 0x69
@@ -92,11 +95,10 @@ record_within row highest p k = in_order (limited row led_code (led_loss highest
 abbrev pub colors_within : Row → ℕ → List ℕ → Guard
 colors_within row highest p = within_limits row led_code (led_loss highest) p
 
--- strict's rule for colours (R5.6, R104): row 17 for one that the second generation does not know, and for the first generation then row 18 for one
--- that it does not know
+-- strict's rule for colours (R5.6, R104): row 17 for one that reading would fold; for the first generation then row 18 for one that it does not know
 abbrev pub colors_known : Generation → List ℕ → Guard
-colors_known Second p = colors_within Folded (highest_color Second) p
-colors_known First p = colors_within Folded (highest_color Second) p also colors_within SecondGenerationColor (highest_color First) p
+colors_known Second p = colors_within Folded highest_color p
+colors_known First p = colors_within Folded highest_color p also colors_within SecondGenerationColor (highest_known First) p
 
 abbrev pub leds : Form
 leds = listed (record {
@@ -105,5 +107,5 @@ leds = listed (record {
   check = positive_multiple_of 14;
   fields = led_of;
   bytes = led_bytes;
-  loss = led_loss (highest_color Second);
+  loss = led_loss highest_color;
 })

@@ -5,7 +5,7 @@ use Rattle.payload_util.specs.declared.Refusal.{Refusal}
 use Rattle.payload_util.specs.declared.Row.TheVariants.{SecondGenerationColor}
 use Rattle.led.specs.declared.Generation.{Generation}
 use Rattle.led.specs.declared.Generation.TheVariants.{First, Second}
-use Rattle.led.specs.Led.{led_code, highest_color, colors_known}
+use Rattle.led.specs.Led.{led_code, highest_known, colors_known}
 
 -- whether a record has a colour at an offset (R4.1)
 abbrev pub is_color : ℕ → Bool
@@ -24,8 +24,8 @@ NoneAbove highest p = (i : ℕ) → Above highest p i → ⊥
 -- no colour is above the second generation's highest, some are above the first's, and the refusal names the first of these
 abbrev pub NewColor : List ℕ → Refusal → Type 0
 NewColor p e =
-    NoneAbove (highest_color Second) p
-    × ((at : ℕ) × (e ≡ refusal SecondGenerationColor led_code at (byte_at p at)) × FirstAbove (highest_color First) p at)
+    NoneAbove (highest_known Second) p
+    × ((at : ℕ) × (e ≡ refusal SecondGenerationColor led_code at (byte_at p at)) × FirstAbove (highest_known First) p at)
 
 -- row 18 is given exactly then, for the first generation
 abbrev pub RowEighteen : Type 0

@@ -4,9 +4,8 @@
 ghost use Rattle.std.specs.Prelude.{◌≡◌, ◌*◌, ◌/◌, ◌≤◌, ◌<◌, length, refl};
 ghost use Rattle.std.proofs.Common.{lit<};
 ghost use Rattle.payload_util.specs.Prelude.{keep, times};
-ghost use Rattle.led.specs.Led.{color_byte, color_of, highest_color, temporary_of, permanent_of, led_of, led_bytes, led_code, led_at};
-ghost use Rattle.led.specs.Led.{led_limits, led_loss, record_within, colors_within, colors_known, leds};
-ghost use Rattle.led.specs.declared.Generation.TheVariants.{First, Second};
+ghost use Rattle.led.specs.Led.{color_byte, color_of, highest_color, highest_known};
+ghost use Rattle.led.specs.Led.{temporary_of, permanent_of, led_of, led_bytes, led_code, led_at, led_limits, record_within, colors_within, colors_known, leds};
 
 use lists::{ListRecord, put_at};
 use payload_util::{
@@ -28,6 +27,8 @@ pub enum LedColor {
 }
 
 impl LedColor {
+    const HIGHEST: u8 = LedColor::White as u8;
+
     // By its name in the Rust, with no `From` beside it. An unknown colour becomes Black.
     #[tactic(auto, unfolding(crate::specs::Led::color_of))]
     pub fn from_byte(b: u8) -> LedColor
@@ -62,11 +63,11 @@ pub enum Generation {
 
 impl Generation {
     pub fn highest_color(self) -> u8
-        ensures { result ≡ highest_color self }
+        ensures { result ≡ highest_known self }
     {
         match self {
-            Generation::First => LedColor::Blue.as_byte(),
-            Generation::Second => LedColor::White.as_byte(),
+            Generation::First => LedColor::Blue as u8,
+            Generation::Second => LedColor::HIGHEST,
         }
     }
 }
@@ -259,21 +260,20 @@ impl LedRecord {
         Some(Self::fields(part))
     }
 
-    // Folds the colours of a record: one that the second generation does not know becomes Black.
+    // Folds the colours of a record: one above the highest becomes Black.
     fn fold(bytes: &mut [u8])
         requires { 14 ≤ length bytes.old }
-        ensures { bytes.new ≡ keep (led_limits (highest_color Second)) bytes.old }
+        ensures { bytes.new ≡ keep (led_limits highest_color) bytes.old }
     {
-        let highest = Generation::Second.highest_color();
-        bytes[5] = folded(bytes[5], highest);
-        bytes[6] = folded(bytes[6], highest);
-        bytes[12] = folded(bytes[12], highest);
-        bytes[13] = folded(bytes[13], highest);
+        bytes[5] = folded(bytes[5], LedColor::HIGHEST);
+        bytes[6] = folded(bytes[6], LedColor::HIGHEST);
+        bytes[12] = folded(bytes[12], LedColor::HIGHEST);
+        bytes[13] = folded(bytes[13], LedColor::HIGHEST);
     }
 
     // Folds the colours of all records. By number, since of a slice lent in chunks it is not known what it ends as.
     fn fold_all(p: &mut [u8])
-        ensures { p.new ≡ keep (times (length p.old / 14) (led_limits (highest_color Second))) p.old }
+        ensures { p.new ≡ keep (times (length p.old / 14) (led_limits highest_color)) p.old }
     {
         for k in 0..p.len() / Self::WIRE_LEN {
             let start = k * Self::WIRE_LEN;
@@ -311,7 +311,7 @@ impl LedRecord {
     pub fn within_limits(p: &[u8], generation: Generation) -> Result<(), Refusal>
         ensures { result ≡ colors_known generation p.now }
     {
-        Self::colors_within(p, Generation::Second.highest_color(), Row::Folded)?;
+        Self::colors_within(p, LedColor::HIGHEST, Row::Folded)?;
         match generation {
             Generation::First => {
                 Self::colors_within(p, generation.highest_color(), Row::SecondGenerationColor)
