@@ -5,36 +5,28 @@ use mathlib.Core.List.{List}
 use Prim.Native.Nat.{ℕ, ◌*◌, ◌/◌}
 use native.Mathlib.Omega.{arith}
 use lib.ListN.{length}
-use Rattle.std.specs.Prelude.{Ok, Err}
-use Rattle.payload_util.specs.Refusals.{◌also◌, Guard, Pass, number_of}
+use Rattle.std.specs.Prelude.{Err}
+use Rattle.payload_util.specs.Refusals.{Guard, Pass}
 use Rattle.payload_util.specs.declared.Refusal.{Refusal}
 use Rattle.payload_util.specs.declared.Row.{Row}
 use Rattle.payload_util.specs.declared.Row.TheVariants.{Folded, SecondGenerationColor}
 use Rattle.payload_util.proofs.Limits.{row_given}
 use Rattle.led.specs.declared.Generation.{Generation}
 use Rattle.led.specs.declared.Generation.TheVariants.{First, Second}
-use Rattle.led.specs.Led.{led_code, led_loss, highest_known, colors_within, colors_known}
+use Rattle.led.specs.Led.{highest_known, colors_within, colors_known}
 use Rattle.led.specs.Promises.{NewColor, RowEighteen}
 use Rattle.led.proofs.Limits.{none_above, above_none, above_first, first_above}
-
--- a refusal by a row that the first of two checks does not give is the second's
-second_gives : (g h : Guard) (e : Refusal) → (g ≡ Err e → ⊥) → (g also h) ≡ Err e → (g ≡ Pass) × (h ≡ Err e)
-second_gives (Ok _) h e not w = (refl, w)
-second_gives (Err r) h e not w = absurd (not w)
 
 module _ (p : List ℕ) (e : Refusal) (records : length p ≡ length p / 14 * 14) (row : e.row ≡ SecondGenerationColor) where
   abbrev within : Row → Generation → Guard
   within r g = colors_within r (highest_known g) p
 
   not_folded : within Folded Second ≡ Err e → ⊥
-  not_folded w =
-      let same : Folded ≡ SecondGenerationColor = sym (row_given Folded led_code (led_loss (highest_known Second)) p e w) ∙ row in
-      let numbers : ◌≡◌ {A = ℕ} 17 18 = ap number_of same in
-      omega arith
+  not_folded w = grind (arith, row_given)
 
   given : (g : Generation) → colors_known g p ≡ Err e → (g ≡ First) × NewColor p e
   given First w =
-      let (none, some) = second_gives (within Folded Second) (within SecondGenerationColor First) e not_folded w in
+      let (none, some) : (within Folded Second ≡ Pass) × (within SecondGenerationColor First ≡ Err e) = grind (arith, not_folded) in
       let (at, same, first) = first_above SecondGenerationColor (highest_known First) p records e some in
       (refl, (none_above Folded (highest_known Second) p records none, (at, sym same, first)))
   given Second w = absurd (not_folded w)

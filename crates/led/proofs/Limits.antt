@@ -1,13 +1,12 @@
 -- The colours of LED records have a limit, and no other bytes do.
 -- Assumes nothing.
 use mathlib.Core.Path.{◌≡◌, refl, sym, ap, ◌∙◌}
-use mathlib.Core.Bool.{Bool, true, false, cond}
+use mathlib.Core.Bool.{cond}
 use mathlib.Core.List.{List}
 use Prim.Native.Nat.{ℕ, ◌+◌, ◌*◌, ◌/◌, ◌%◌, ◌<◌}
 use native.Mathlib.Nat.{add-zero}
 use native.Mathlib.Omega.{arith}
-use borrow.Author.Tests.{leb-false, lt-leb, ltb-true, ltb-false}
-use lib.Dec.{leb, ltb}
+use borrow.Author.Tests.{lt-leb}
 use lib.ListN.{length, get_or, get_or-eq_default}
 use Rattle.std.specs.Prelude.{Err}
 use Rattle.payload_util.specs.Refusals.{require, ◌also◌, in_order, Guard, Pass, refusal}
@@ -86,40 +85,16 @@ module _ (row : Row) (highest : ℕ) (p : List ℕ) where
     is_tested i lt = ap (λ (l : Keep). require (fits l (byte_at p i)) (refusal_at i)) (limit_of i lt)
 
     there : (i : ℕ) → Above highest p i → i < length p
-    there i (color, above) = go (ltb i (length p)) refl
-      where
-        go : (t : Bool) → ltb i (length p) ≡ t → i < length p
-        go true q = ltb-true _ _ q
-        go false q =
-            let zero_there : get_or p i 0 ≡ 0 = get_or-eq_default p 0 {n = i} (omega (arith, ltb-false _ _ q)) in
-            absurd (omega arith)
+    there i (color, above) = grind (arith, get_or-eq_default)
 
     refuses : (i : ℕ) → Above highest p i → f i ≡ Err (refusal_at i)
     refuses i (color, above) = is_tested i (there i (color, above)) ∙ simp (color, lt-leb _ _ above)
 
     refused : (i : ℕ) (e : Refusal) → i < length p → f i ≡ Err e → (refusal_at i ≡ e) × Above highest p i
-    refused i e lt w = go (is_color (i % 14)) refl (sym (is_tested i lt) ∙ w)
-      where
-        over : (t : Bool) → is_color (i % 14) ≡ true → leb (byte_at p i) highest ≡ t → require t (refusal_at i) ≡ Err e
-            → (refusal_at i ≡ e) × Above highest p i
-        over true color q w = absurd (no_refusal w)
-        over false color q w = (cc, (color, leb-false _ _ q))
-
-        go : (t : Bool) → is_color (i % 14) ≡ t → require (fits (cond t (up_to highest) any) (byte_at p i)) (refusal_at i) ≡ Err e
-            → (refusal_at i ≡ e) × Above highest p i
-        go true color w = over (leb (byte_at p i) highest) color refl w
-        go false color w = absurd (no_refusal w)
+    refused i e lt w = let t : tested i ≡ Err e = sym (is_tested i lt) ∙ w in grind (arith, no_refusal)
 
     passes : (i : ℕ) → i < length p → (Above highest p i → ⊥) → f i ≡ Pass
-    passes i lt not = is_tested i lt ∙ go (is_color (i % 14)) refl
-      where
-        under : (t : Bool) → is_color (i % 14) ≡ true → leb (byte_at p i) highest ≡ t → require t (refusal_at i) ≡ Pass
-        under true color q = refl
-        under false color q = absurd (not (color, leb-false _ _ q))
-
-        go : (t : Bool) → is_color (i % 14) ≡ t → require (fits (cond t (up_to highest) any) (byte_at p i)) (refusal_at i) ≡ Pass
-        go true color = under (leb (byte_at p i) highest) color refl
-        go false color = refl
+    passes i lt not = is_tested i lt ∙ grind arith
 
     pub none_above : colors_within row highest p ≡ Pass → NoneAbove highest p
     unfolding within_limits
