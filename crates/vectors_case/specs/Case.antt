@@ -14,7 +14,8 @@ abbrev pub IsWanted : ℕ → ℕ → ℕ → ℕ → Guard → Type 0
 IsWanted number code first second (Ok _) = number ≡ 0
 IsWanted number code first second (Err e) = (number_of e.row ≡ number) × (e.code ≡ code) × (e.first ≡ first) × (e.second ≡ second)
 
--- the wanted answer of strict for the first generation: an argument from 3 on names a place, 3 above it, and then it is row 18 for the byte there
+-- the wanted answer of strict for the first generation: that for the second, or, if the argument is 3 or more, row 18 for the byte at the place that is
+-- the argument less 3
 abbrev pub wanted_of_first : Case → Guard
 wanted_of_first c =
     let place = c.argument - 3 in

@@ -57,7 +57,7 @@ pub const LED_BYTES: usize = 14;
 
 pub const OUT_BYTES: usize = 4;
 
-// The argument of a payload that the first generation is told of as no other: the place of a colour, and this number more.
+// From this argument on, strict refuses the payload to the first generation for the colour at the place that is the argument less this.
 const NEW_COLOR: usize = 3;
 
 #[derive(Clone, Copy, Debug, PartialEq, Eq)]
@@ -88,7 +88,7 @@ impl<'a> Case<'a> {
         g == self.wanted
     }
 
-    // What strict has to answer for the first generation.
+    // What strict has to answer for the first generation, where the wanted answer is the second's.
     pub fn wanted_of_first(self) -> Result<(), Refusal>
         ensures { result ≡ wanted_of_first self.entry }
     {
