@@ -1,8 +1,9 @@
 -- Examples beside the starred ones: each is what docs/REQUIREMENTS.md says, and is proved of the definitions.
-use Rattle.std.specs.Prelude.{replicate, pos, negsuc, List, [], ◌∷◌, ◌++◌, ℕ, Ok, Err}
+use Rattle.std.specs.Prelude.{replicate, pos, negsuc, List, [], ◌∷◌, ◌++◌, Ok, Err}
 use Rattle.led.specs.declared.LedRecord.{LedRecord}
 use Rattle.led.specs.declared.LedColor.TheVariants.{Green, Amber, Cyan, White}
 use Rattle.led.specs.declared.Generation.TheVariants.{First, Second}
+use Rattle.led.specs.Examples.{colored}
 use Rattle.text.specs.declared.TextCommand.TheVariants.{PermanentNoWrap, TemporaryNoWrap}
 use Rattle.biometric.specs.declared.BioType.TheVariants.{RightThumb, RightLittle}
 use Rattle.biometric.specs.declared.BioFormat.TheVariants.{FingerprintRawPgm, FingerprintAnsi378}
@@ -51,10 +52,6 @@ order_examples =
     ∷ is_refused Text (0x00 ∷ 0x01 ∷ 0x00 ∷ 0x01 ∷ 0x01 ∷ 0x02 ∷ 0x1F ∷ []) (refusal DeclaredLength 0x6B 0 0)
     ∷ is_not_written Text (record { reader = 0; command = PermanentNoWrap; temp_time_s = 0; row = 1; column = 1 }, replicate 256 0x1F) [] (refusal UnprintableText 0x6B 0 0)
     ∷ []
-
--- a record with these four colours
-abbrev pub colored : ℕ → ℕ → ℕ → ℕ → List ℕ
-colored a b c d = 0x00 ∷ 0x00 ∷ 0x02 ∷ 0x05 ∷ 0x05 ∷ a ∷ b ∷ 0x64 ∷ 0x00 ∷ 0x01 ∷ 0x01 ∷ 0x00 ∷ c ∷ d ∷ []
 
 -- R104: what each generation is told
 unfoldable pub generation_examples : List Case
