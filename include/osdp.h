@@ -28,28 +28,31 @@ extern "C" {
 /* The longest payload that is taken. A buffer as long as the payload always suffices to normalise it. */
 #define OSDP_LONGEST 65546
 
-/* Why a payload is refused. A call returns the number negated, such as -OSDP_TOO_SHORT. */
+/*
+ * Why a payload is refused. A call returns the number negated, such as -OSDP_TOO_SHORT. In brackets: the two numbers that inspect shows with the
+ * refusal, and that a program in Rattle is given; no call of this header gives them.
+ */
 enum osdp_refusal {
     OSDP_UNKNOWN_COMMAND = 1,     /* no command has this code byte */
     OSDP_UNKNOWN_REPLY = 2,       /* no reply has this code byte */
-    OSDP_LENGTH = 3,              /* not the exact length of the kind */
-    OSDP_TOO_SHORT = 4,           /* below the least length of the kind */
-    OSDP_NOT_MULTIPLE = 5,        /* empty, or not a multiple of the record length */
-    OSDP_DECLARED_LENGTH = 6,     /* a length or count field does not match the payload */
+    OSDP_LENGTH = 3,              /* not the exact length of the kind (expected, got) */
+    OSDP_TOO_SHORT = 4,           /* below the least length of the kind (least, got) */
+    OSDP_NOT_MULTIPLE = 5,        /* empty, or not a multiple of the record length (record length, got) */
+    OSDP_DECLARED_LENGTH = 6,     /* declared length or count is not the payload's (asked for, got) */
     OSDP_OUTPUT_CODE = 7,         /* an output control code above 6 */
     OSDP_TEXT_BYTE = 8,           /* a text byte that is not printable ASCII */
     OSDP_TEXT_COMMAND = 9,        /* a text command that is not 1 to 4 */
     OSDP_NAK_ERROR = 10,          /* a NAK error above 9 */
     OSDP_NOT_CARRIED = 14,        /* the code is known, but its payload is not carried here */
-    OSDP_NO_ROOM = 15,            /* the output buffer is too short */
+    OSDP_NO_ROOM = 15,            /* the output buffer is too short (needed, given) */
     /* of the strict check, which no call of this header makes */
-    OSDP_FOLDED = 17,             /* a byte that reading would fold: a colour above 7, a biometric type above 0x11 or format above 2 */
-    OSDP_SECOND_GENERATION = 18,  /* a colour 5 to 7, which readers of the first generation do not know */
+    OSDP_FOLDED = 17,             /* a byte that reading would fold: a colour above 7, a biometric type above 0x11 or format above 2 (offset, byte) */
+    OSDP_SECOND_GENERATION = 18,  /* a colour 5 to 7, which readers of the first generation do not know (offset, byte) */
     /* of frames, which no call of this header takes or gives */
     OSDP_FRAME = 20,              /* not a frame's first byte or control byte; or an address or sequence that no frame has */
     OSDP_FRAME_CHECK = 21,        /* the check of a frame is wrong */
     OSDP_HOUSE_LIMIT = 22,        /* a frame above 1,440 bytes */
-    OSDP_TOO_LONG = 28            /* the payload is longer than OSDP_LONGEST */
+    OSDP_TOO_LONG = 28            /* the payload is longer than OSDP_LONGEST (longest, got) */
 };
 
 /* Whether a command's payload is well formed. Returns 0, or the refusal's number negated. */

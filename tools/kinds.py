@@ -31,6 +31,7 @@ def kind(line):
     return SimpleNamespace(
         name=name, side=side, code=int(code, 16), least=int(least), most=int(most), step=int(step), fields=fields, tried=numbers(tried),
         limits=[(at, span(field)[1]) for at, field in zip(places, fields) if field.startswith("<=")],
+        declared=next((field for field in fields if field in ("len8", "len16", "count8", "bits16")), None),
         copied=fields[-1].startswith("tail"),  # normalising copies the tail without looking at it
         kept_after=int(fields[-1][5:], 16) if fields[-1].startswith("tail:") else None)
 

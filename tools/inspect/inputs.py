@@ -2,9 +2,9 @@
 """Runs inspect on inputs of every sort: inputs.py PROGRAM
 
 Bad lines and bad files; every code byte of both sides, with the name that its code table has (crates/codes/specs); payloads with the words
-that they have to give; every byte as a digit of a keypad; payloads of the greatest lengths; and, also for its speed, the lines of the sample
-many times over. Of each run all that inspect says, on both outputs, and its exit status are compared. inspect says on standard error what is
-wrong with a file, and ends with status 0 whatever it was given. Exits with 1 if something differs.
+that they have to give; lengths and counts that do not fit; every byte as a digit of a keypad; payloads of the greatest lengths; and, also for
+its speed, the lines of the sample many times over. Of each run all that inspect says, on both outputs, and its exit status are compared. inspect
+says on standard error what is wrong with a file, and ends with status 0 whatever it was given. Exits with 1 if something differs.
 """
 import os
 import re
@@ -18,7 +18,7 @@ sys.dont_write_bytecode = True
 top = Path(__file__).resolve().parent.parent.parent
 sys.path.insert(0, str(top / "tools"))
 import names
-from kinds import KINDS
+from kinds import KINDS, width
 
 MOST_SECONDS = 60
 ENDED = 0
@@ -205,6 +205,25 @@ def in_words(t):
     t.expect("payloads in words", shown + counts(read=len(lines)), text="\n".join(lines).encode())
 
 
+def other_length(asked, got):
+    """what is said of a payload whose length or count does not fit"""
+    return f"  refused, row 6 ({asked}, {got}): declared length or count is not the payload's (asked for, got)\n"
+
+
+def declared(t):
+    """Of each kind with a length or count: no tail asked for, and a byte there; the longest, and nothing there."""
+    kinds = [k for k in KINDS if k.declared]
+    lines, shown = [], ""
+    for kind in kinds:
+        at = sum(map(width, kind.fields[:kind.fields.index(kind.declared)]))
+        wide = width(kind.declared)
+        most = bytes(at) + b"\xff" * wide + bytes(kind.least - at - wide)
+        for p, asked in ((bytes(kind.least + 1), kind.least), (most, kind.most)):
+            lines.append(f"{kind.side} {kind.code:02X} {p.hex()}")
+            shown += f"line {len(lines)}: {kind.side} {kind.code:02X} {kind.name}, length {len(p)}\n{other_length(asked, len(p))}"
+    t.expect("declared lengths", shown + counts(refused=len(lines)), text="\n".join(lines).encode())
+
+
 def key(b):
     """a byte that a keypad sent"""
     if b in (0x0D, 0x7F):
@@ -218,8 +237,8 @@ def every_key(t):
         wanted = f"digits:{''.join(f' {b:02X}' for b in keys)}\n  as text: {''.join(map(key, keys))}\n"
         t.expect("the most digits", f"line 1: reply 53 KEYPAD, length 257\n  reader 2, digit_count 255\n  {wanted}{counts(read=1)}",
                  text=b"reply 53 02FF" + bytes(keys).hex().encode())
-    t.expect("more digits than a count can have", f"line 1: reply 53 KEYPAD, length 258\n"
-             f"  refused, row 6 (0, 0): declared length or count is not the payload's\n{counts(refused=1)}", text=b"reply 53 02FF" + b"30" * 256)
+    t.expect("more digits than a count can have", f"line 1: reply 53 KEYPAD, length 258\n{other_length(257, 258)}{counts(refused=1)}",
+             text=b"reply 53 02FF" + b"30" * 256)
 
 
 def long_payloads(t):
@@ -256,6 +275,7 @@ def main():
     lines_and_files(t)
     codes = every_code(t)
     in_words(t)
+    declared(t)
     every_key(t)
     long_payloads(t)
     lines, speed = many_lines(t)

@@ -77,8 +77,9 @@ pub fn read(f: &[u8]) -> Result<(Frame, Vec<u8>), Refusal> {
     if f.len() > MOST {
         return refused(22, 0, 0);
     }
-    if usize::from(u16::from_le_bytes([f[2], f[3]])) != f.len() {
-        return refused(6, 0, 0);
+    let asked = usize::from(u16::from_le_bytes([f[2], f[3]]));
+    if asked != f.len() {
+        return refused(6, asked, f.len());
     }
     let control = f[4];
     if control & !(SEQUENCE | CRC) != 0 {

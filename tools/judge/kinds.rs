@@ -191,6 +191,14 @@ impl Kind {
         self.places().find(|(_, f)| f.highest().is_some())
     }
 
+    /// How many bytes a payload has to have in all, by its field for the tail's length. None if the kind has no such field, or the payload is too short.
+    pub fn asked(&self, payload: &[u8]) -> Option<usize> {
+        let (at, field) = self.declared()?;
+        let bytes = payload.get(at..at + field.width())?;
+        let number = bytes.iter().rev().fold(0, |n, &b| 256 * n + usize::from(b));
+        Some(self.least + field.tail(number))
+    }
+
     /// Whether normalising can change a payload.
     pub fn can_change(&self) -> bool {
         self.kept_after().is_some() || self.limits().next().is_some()

@@ -1,7 +1,7 @@
-//! Reads a payload by its code byte: the original's answer, and rows 14 and 28, for which it has no counterpart. What has to be written is the
-//! original's answer as well, except where it refuses an address.
+//! Reads a payload by its code byte: the original's answer, the two numbers of row 6, which its error lacks, and rows 14 and 28, for which it has no
+//! counterpart. What has to be written is the original's answer as well, except where it refuses an address.
 use crate::kinds::{kind, Kind, Side, LONGEST};
-use crate::refusal::{refusal, Refusal};
+use crate::refusal::{refusal, Refusal, DECLARED_LENGTH};
 use osdp::command::{Command, CommandCode};
 use osdp::error::Error;
 use osdp::reply::{Reply, ReplyCode};
@@ -53,13 +53,34 @@ fn added(side: Side, code: u8, len: usize) -> Result<(), Refusal> {
     }
 }
 
-/// The original alone. Like a kind's own calls, it has no limit on the payload's length.
+/// The original refuses by row 6, and its error has no numbers: they are what the payload's field asks for in all, by kinds.txt, and what came. Stops if
+/// they do not go with the original's answer.
+fn with_lengths(k: &Kind, p: &[u8], answer: Result<Record, Refusal>) -> Result<Record, Refusal> {
+    let (asked, got) = (k.asked(p), p.len());
+    match &answer {
+        Err(e) if e.row == DECLARED_LENGTH => {
+            let first = asked.filter(|&n| n != got).expect("row 6, and the field asks for another length");
+            Err(Refusal { first, second: got, ..*e })
+        }
+        Ok(_) => {
+            assert!(asked.is_none_or(|n| n == got), "{}: the field asks for {asked:?} bytes, and the original takes {got}", k.name);
+            answer
+        }
+        Err(_) => answer,
+    }
+}
+
+/// Like a kind's own calls, without a limit on the payload's length.
 pub fn read_of_kind(side: Side, code: u8, p: &[u8]) -> Result<Record, Refusal> {
-    match side {
+    let answer = match side {
         Side::Command => CommandCode::from_byte(code).and_then(|c| Command::decode(c, p)).map(Record::Command),
         Side::Reply => ReplyCode::from_byte(code).and_then(|c| Reply::decode(c, p)).map(Record::Reply),
     }
-    .map_err(refusal)
+    .map_err(refusal);
+    match kind(side, code) {
+        Some(k) => with_lengths(k, p, answer),
+        None => answer,
+    }
 }
 
 pub fn read(side: Side, code: u8, p: &[u8]) -> Result<Record, Refusal> {

@@ -1,4 +1,4 @@
-//! Rows of the refusal table (R7 of docs/REQUIREMENTS.md) for the errors of the original.
+//! Rows of the refusal table (R7 of docs/REQUIREMENTS.md) for the errors of the original, with the numbers that these have.
 use osdp::error::Error;
 use std::sync::LazyLock;
 
@@ -9,6 +9,9 @@ pub struct Refusal {
     pub first: usize,
     pub second: usize,
 }
+
+/// The row of which the numbers are not the original's (read.rs).
+pub const DECLARED_LENGTH: u8 = 6;
 
 static REASONS: LazyLock<Vec<(&str, u8)>> = LazyLock::new(|| {
     let parsed = |(number, line): (usize, &'static str)| match line.split_once(' ') {

@@ -141,7 +141,7 @@ def lengths():
             exchanged = n % 256 * 256 + n // 256
             for length in sorted({n - 1, n + 1, 0, 1, WHOLE - 1, exchanged, n ^ 0x100, room(n, crc), n - width(crc), WHOLE - n}):
                 f = level(side.top, crc, side.code, n, length=length) if room(n, crc) else frame(side.top, crc, side.code, length=length)
-                yield read(f, refused(6))
+                yield read(f, refused(6, 0, length, n))
 
 
 def controls():
@@ -193,12 +193,12 @@ def other_lengths():
     for side, crc in EACH:
         f = frame(side.top, crc, side.code, b"\x53\x00\x08\x00\x04")
         for n in range(7, len(f)):
-            yield read(f[:n], refused(6))
+            yield read(f[:n], refused(6, 0, len(f), n))
         for b in (b"\0", b"\x53", b"\xff"):
-            yield read(f + b, refused(6))
+            yield read(f + b, refused(6, 0, len(f), len(f) + 1))
             yield read(b + f, None if b == b"\x53" else refused(20))
         f = level(side.top, crc, side.code, MOST)
-        yield from (read(f[:-1], refused(6)), read(f + b"\0", refused(22)), read(b"\0" + f, refused(20)), read(b"\x53" + f, refused(22)))
+        yield from (read(f[:-1], refused(6, 0, MOST, MOST - 1)), read(f + b"\0", refused(22)), read(b"\0" + f, refused(20)), read(b"\x53" + f, refused(22)))
 
 
 # what a frame can be refused for, in the order in which it is
@@ -207,18 +207,24 @@ FAULTS = ("short", "first", "long", "length", "control", "seven", "check", "code
 APART = ({"short", "long"}, {"short", "seven"}, {"long", "seven"}, {"short", "check"})
 
 
+def size(faults):
+    """how many bytes a frame with these faults has"""
+    return next((n for name, n in (("short", 6), ("long", MOST + 1), ("seven", 7)) if name in faults), 12)
+
+
 def faulty(faults, side, crc):
     """a frame with these faults and no other, except that six bytes have no check"""
-    n = next((n for name, n in (("short", 6), ("long", MOST + 1), ("seven", 7)) if name in faults), 12)
+    n = size(faults)
     begun = head(side.top | 1, crc | 2 | (HIGHER if "control" in faults else 0), side.unknown if "code" in faults else side.code,
                  n + 1 if "length" in faults else n, FIRST + 1 if "first" in faults else FIRST)
     f = (begun + check(0 if n == 7 else crc, begun)[::-1]).ljust(n, b"\0")[:n]
     return with_bit(f, HEAD) if "check" in faults else f
 
 
-def words_for(fault, side):
-    rows = {"short": refused(4, 0, 7, 6), "long": refused(22), "length": refused(6), "seven": refused(4, 0, 8, 7), "check": refused(21)}
-    return refused(side.row, side.unknown) if fault == "code" else rows.get(fault, refused(20))
+def words_for(faults, side):
+    n = size(faults)
+    rows = {"short": refused(4, 0, 7, 6), "long": refused(22), "length": refused(6, 0, n + 1, n), "seven": refused(4, 0, 8, 7), "check": refused(21)}
+    return refused(side.row, side.unknown) if faults[0] == "code" else rows.get(faults[0], refused(20))
 
 
 def with_faults():
@@ -228,7 +234,7 @@ def with_faults():
             if not any(pair <= set(faults) for pair in APART):
                 for side, crc in EACH:
                     if crc or "seven" not in faults:
-                        yield read(faulty(faults, side, crc), words_for(faults[0], side))
+                        yield read(faulty(faults, side, crc), words_for(faults, side))
 
 
 def write(side, control, address, code, payload, words=None, sequence=None):

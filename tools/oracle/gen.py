@@ -226,6 +226,32 @@ def generations(scale):
         yield coloured(n, {at: new_colour(highest), other: highest + 1 + R.below(0xFF - highest)})
 
 
+def declared(scale):
+    """a length or count, and another number of bytes: nothing, one less, one more, a few more; in a larger run also by chance
+
+    The field asks for nothing, for a few bytes, for so many that a byte of the number changes, and for the most that it can.
+    """
+    for kind in (k for k in KINDS if k.declared):
+        most = 256 ** width(kind.declared) - 1
+
+        def asking(n, got):
+            return case(kind, f"{spell(good(kind, n)[:kind.least])}+{R.below(256):02X}*{got}")
+
+        def in_bytes(n):
+            return (n + 7) // 8 if kind.declared == "bits16" else n
+
+        for n in (n for n in (0, 1, 2, 7, 8, 9, 254, 255, 256, 257, 0x0102, 0x0201, 0xFF00, 0xFFFE, 0xFFFF) if n <= most):
+            tail = in_bytes(n)
+            for got in sorted({0, tail - 1, tail + 1, tail + 3} - {-1, tail}):
+                line = asking(n, got)
+                yield line
+                if kind.least + got > LIMIT:
+                    yield f"kind {line}"
+        for _ in range(scale if scale >= EACH else 0):
+            n, other = (R.of((R.below, R.size))(most + 1) for _ in range(2))
+            yield asking(n, in_bytes(other))
+
+
 def by_code():
     """every code byte, with no payload, with a byte, and with one that is too long"""
     for what in ("command", "reply"):
@@ -456,6 +482,7 @@ def cases(scale):
     yield from (case for case, _ in frames())
     yield from texts(scale)
     yield from generations(scale)
+    yield from declared(scale)
 
 
 for line in dict.fromkeys(cases(int(sys.argv[1]) if len(sys.argv) > 1 else 1)):

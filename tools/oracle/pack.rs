@@ -4,6 +4,7 @@ use judge::frame::Frame;
 use judge::kinds::{Field, Kind, KINDS};
 use judge::refusal::Refusal;
 use std::borrow::Cow;
+use std::cmp::Ordering::{self, Greater, Less};
 use std::collections::{BTreeMap, BTreeSet};
 
 pub const END: u8 = 255;
@@ -18,6 +19,8 @@ const OF_KIND: usize = 2;
 const NEW_COLOUR: usize = 3;
 /// Up to this many bytes are stored as they are.
 const SHORT: usize = 64;
+/// The row that says what a payload's fields ask for, and what came.
+const DECLARED_LENGTH: u8 = 6;
 
 /// One byte below 255, or 255 and then eight bytes.
 fn number(out: &mut Vec<u8>, n: usize) {
@@ -58,8 +61,8 @@ fn joined(kind: &Kind, fixed: &[u8], tail: &[u8]) -> Vec<u8> {
 }
 
 /// What occurred: the number of cases, cases by class and row, and by class and code those that are accepted and those that the original refuses to
-/// write; of frames that are accepted the class, whether it is a reply, and whether it has a CRC; and payloads with row 18 for the first generation alone,
-/// which are counted by the row that the second is given.
+/// write; of frames that are accepted the class, whether it is a reply, and whether it has a CRC; payloads with row 18 for the first generation alone,
+/// which are counted by the row that the second is given; and of row 6 class and code, what was asked for, and whether less or more came.
 #[derive(Default)]
 pub struct Tally {
     cases: usize,
@@ -68,6 +71,7 @@ pub struct Tally {
     differing: BTreeMap<(u8, u8), usize>,
     framed: BTreeSet<(u8, bool, bool)>,
     new_colours: usize,
+    lengths: BTreeSet<(u8, u8, usize, Ordering)>,
 }
 
 fn code_of_table(which: usize, byte: u8) -> u8 {
@@ -152,6 +156,9 @@ pub fn pack(out: &mut Vec<u8>, tally: &mut Tally, case: &Case, answer: &Answer) 
     if matches!(case, Case::Payload { .. }) && argument >= NEW_COLOUR {
         tally.new_colours += 1;
     }
+    if e.row == DECLARED_LENGTH {
+        tally.lengths.insert((class, code, e.first, e.second.cmp(&e.first)));
+    }
     if let (Case::Frame(_), Answer::Framed(frame, _)) | (Case::FrameWrite { frame, .. }, Answer::Gave(_)) = (case, answer) {
         tally.framed.insert((class, frame.reply, frame.crc));
     }
@@ -199,6 +206,26 @@ impl Tally {
         rows
     }
 
+    /// What row 6 never said of a kind with a length or a count: more than asked for, where no tail is, where the longest is, and between; and less than the
+    /// longest asked for, and than one between.
+    fn lengths_lacking(&self) -> Vec<String> {
+        let mut lacking = Vec::new();
+        for (k, (_, field)) in KINDS.iter().filter_map(|k| Some((k, k.declared()?))) {
+            let (least, most) = (k.least, k.least + field.tail(field.highest().expect("a field for a length")));
+            let class = 5 + k.side as u8;
+            let mut has = |what: &str, from: usize, to: usize, got: Ordering| {
+                let found = (from..=to).any(|asked| self.lengths.contains(&(class, k.code, asked, got)));
+                lacking.extend((!found).then(|| format!("row 6 of {} with {what}", k.name)));
+            };
+            has("no tail asked for", least, least, Greater);
+            has("less than a tail asked for", least + 1, most - 1, Less);
+            has("more than a tail asked for", least + 1, most - 1, Greater);
+            has("less than the longest tail asked for", most, most, Less);
+            has("more than the longest tail asked for", most, most, Greater);
+        }
+        lacking
+    }
+
     /// The refusals of the reader and of the writer of frames that never occurred, and the sides and checks that were never read or written.
     fn frames_lacking(&self) -> Vec<String> {
         let mut lacking = Vec::new();
@@ -209,6 +236,10 @@ impl Tally {
                 let (side, check) = names(reply, crc);
                 lacking.extend((!self.framed.contains(&(class, reply, crc))).then(|| format!("frame of a {side} with {check} {what}")));
             }
+        }
+        for (what, order) in [("less", Less), ("more", Greater)] {
+            let found = self.lengths.iter().any(|&(class, .., got)| (class, got) == (FRAME, order));
+            lacking.extend((!found).then(|| format!("row 6 of a frame with {what} than its length field asks for")));
         }
         lacking
     }
@@ -223,6 +254,7 @@ impl Tally {
             lacking.extend(KINDS.iter().filter(never).map(|k| format!("{} {what}", k.name)));
         }
         lacking.extend((self.new_colours == 0).then(|| "row 18".to_string()));
+        lacking.extend(self.lengths_lacking());
         lacking.extend(self.frames_lacking());
         lacking.extend(self.differences());
         is_none(&lacking)

@@ -33,9 +33,9 @@ InOrder =
     × IsRefused (0x52 ∷ replicate 1440 0) (refusal NotAFrame 0 0 0)
     × IsRefused (0x53 ∷ replicate 1440 0) (refusal FrameTooLong 0 0 0)
     -- one byte less is not too long
-    × IsRefused (0x53 ∷ 0 ∷ 0 ∷ 0 ∷ 8 ∷ replicate 1435 0) (refusal DeclaredLength 0 0 0)
-    × IsRefused (0x53 ∷ 0 ∷ 8 ∷ 0 ∷ 8 ∷ 0 ∷ 0 ∷ []) (refusal DeclaredLength 0 0 0)
-    × IsRefused (0x53 ∷ 0 ∷ 7 ∷ 1 ∷ 8 ∷ 0 ∷ 0 ∷ []) (refusal DeclaredLength 0 0 0)
+    × IsRefused (0x53 ∷ 0 ∷ 0 ∷ 0 ∷ 8 ∷ replicate 1435 0) (refusal DeclaredLength 0 0 1440)
+    × IsRefused (0x53 ∷ 0 ∷ 8 ∷ 0 ∷ 8 ∷ 0 ∷ 0 ∷ []) (refusal DeclaredLength 0 8 7)
+    × IsRefused (0x53 ∷ 0 ∷ 7 ∷ 1 ∷ 8 ∷ 0 ∷ 0 ∷ []) (refusal DeclaredLength 0 263 7)
     × IsRefused (0x53 ∷ 0 ∷ 7 ∷ 0 ∷ 12 ∷ 0 ∷ 0 ∷ []) (refusal NotAFrame 0 0 0)
     × IsRefused (0x53 ∷ 0 ∷ 7 ∷ 0 ∷ 128 ∷ 0 ∷ 0 ∷ []) (refusal NotAFrame 0 0 0)
     × IsRefused (0x53 ∷ 0 ∷ 7 ∷ 0 ∷ 4 ∷ 0 ∷ 0 ∷ []) (refusal PayloadTooShort 0 8 7)

@@ -15,7 +15,7 @@ pub fn sentence(row: Row) -> &'static str
         Row::PayloadNotMultiple => {
             "empty or not a multiple of the record length (record length, got)"
         }
-        Row::DeclaredLength => "declared length or count is not the payload's",
+        Row::DeclaredLength => "declared length or count is not the payload's (asked for, got)",
         Row::UnknownOutputCode => "output code above 6",
         Row::UnprintableText => "text byte not printable",
         Row::UnknownTextCommand => "TEXT command not 1 to 4",

@@ -18,7 +18,7 @@ use Rattle.osdp.specs.declared.Kind.TheVariants.{Led, Out}
 use Rattle.osdp.specs.Kinds.{form, kind_of}
 use Rattle.osdp.specs.ByCode.{not_too_long, kind_for}
 use Rattle.osdp.specs.Starred.{RefusedAs, AllHold, none, ◌and◌}
-use Rattle.osdp.specs.Examples.{row_examples, order_examples, generation_examples, code_examples, unstarred, distinct_led, field_examples, refusal_examples, number_examples}
+use Rattle.osdp.specs.Examples.{row_examples, order_examples, generation_examples, code_examples, unstarred, distinct_led, field_examples, refusal_examples, length_examples, number_examples}
 use Rattle.osdp.proofs.Starred.{one, both, empty}
 use Rattle.payload_util.specs.declared.Row.TheVariants.{PayloadNotMultiple, UnknownOutputCode}
 
@@ -72,6 +72,11 @@ pub refusals_hold : AllHold refusal_examples
 unfolding refusal_examples exact_len at_least declared_len tail_len room
 refusals_hold =
     refl and refl and refl and refl and refl and refl and refl and refl and refl and refl and refl and refl and refl and none
+
+pub lengths_hold : AllHold length_examples
+unfolding length_examples at_least declared_len text_shape check_template
+lengths_hold =
+    refl and refl and refl and refl and refl and refl and refl and refl and refl and refl and refl and refl and refl and refl and none
 
 pub numbers_hold : AllHold number_examples
 unfolding number_examples

@@ -22,7 +22,7 @@ row_examples =
     ∷ is_refused BioRead (0x00 ∷ 0x01 ∷ 0x01 ∷ []) (refusal PayloadLength 0x73 4 3)
     ∷ is_refused Nak [] (refusal PayloadTooShort 0x41 1 0)
     ∷ is_refused Led [] (refusal PayloadNotMultiple 0x69 14 0)
-    ∷ is_refused Raw (0x00 ∷ 0x00 ∷ 0x08 ∷ 0x00 ∷ []) (refusal DeclaredLength 0x50 0 0)
+    ∷ is_refused Raw (0x00 ∷ 0x00 ∷ 0x08 ∷ 0x00 ∷ []) (refusal DeclaredLength 0x50 5 4)
     ∷ is_refused Out (0x03 ∷ 0x07 ∷ 0x0A ∷ 0x00 ∷ []) (refusal UnknownOutputCode 0x68 0 0)
     ∷ is_refused Text (0x00 ∷ 0x01 ∷ 0x00 ∷ 0x01 ∷ 0x01 ∷ 0x01 ∷ 0x1F ∷ []) (refusal UnprintableText 0x6B 0 0)
     ∷ is_refused Text (0x00 ∷ 0x09 ∷ 0x00 ∷ 0x01 ∷ 0x01 ∷ 0x00 ∷ []) (refusal UnknownTextCommand 0x6B 0 0)
@@ -49,7 +49,7 @@ order_examples =
     ∷ strict_says Command 0x80 (replicate 65547 0x00) Second (Err (refusal PayloadTooLong 0x80 65546 65547))
     ∷ strict_says Command 0x73 (0x00 ∷ 0x12 ∷ 0x00 ∷ []) Second (Err (refusal PayloadLength 0x73 4 3))
     ∷ is_refused Out (0x03 ∷ 0x07 ∷ 0x0A ∷ []) (refusal PayloadNotMultiple 0x68 4 3)
-    ∷ is_refused Text (0x00 ∷ 0x01 ∷ 0x00 ∷ 0x01 ∷ 0x01 ∷ 0x02 ∷ 0x1F ∷ []) (refusal DeclaredLength 0x6B 0 0)
+    ∷ is_refused Text (0x00 ∷ 0x01 ∷ 0x00 ∷ 0x01 ∷ 0x01 ∷ 0x02 ∷ 0x1F ∷ []) (refusal DeclaredLength 0x6B 8 7)
     ∷ is_not_written Text (record { reader = 0; command = PermanentNoWrap; temp_time_s = 0; row = 1; column = 1 }, replicate 256 0x1F) [] (refusal UnprintableText 0x6B 0 0)
     ∷ []
 
@@ -153,8 +153,8 @@ field_examples =
 unfoldable pub refusal_examples : List Case
 refusal_examples =
     is_refused Keypad (0x00 ∷ []) (refusal PayloadTooShort 0x53 2 1)
-    ∷ is_refused Keypad (0x00 ∷ 0x01 ∷ []) (refusal DeclaredLength 0x53 0 0)
-    ∷ is_refused Keypad (0x00 ∷ 0x01 ∷ 0x31 ∷ 0x32 ∷ []) (refusal DeclaredLength 0x53 0 0)
+    ∷ is_refused Keypad (0x00 ∷ 0x01 ∷ []) (refusal DeclaredLength 0x53 3 2)
+    ∷ is_refused Keypad (0x00 ∷ 0x01 ∷ 0x31 ∷ 0x32 ∷ []) (refusal DeclaredLength 0x53 3 4)
     ∷ is_not_written Keypad (record { reader = 0; digit_count = 1 }, []) (replicate 3 0xA5) (refusal TailLength 0x53 0 0)
     ∷ is_not_written Keypad (record { reader = 0; digit_count = 1 }, 0x31 ∷ 0x32 ∷ []) [] (refusal TailLength 0x53 0 0)
     ∷ is_not_written Keypad (record { reader = 0; digit_count = 1 }, 0x31 ∷ []) (replicate 2 0xA5) (refusal BufferTooShort 0x53 3 2)
@@ -165,6 +165,25 @@ refusal_examples =
     ∷ is_refused AcuRxSize (0x00 ∷ 0x00 ∷ 0x00 ∷ []) (refusal PayloadLength 0x7B 2 3)
     ∷ is_refused KeepActive [] (refusal PayloadLength 0xA7 2 0)
     ∷ is_not_written KeepActive (record { duration_ms = 1000 }) (replicate 1 0xA5) (refusal BufferTooShort 0xA7 2 1)
+    ∷ []
+
+-- R105: of each kind with a length or a count, one that asks for nothing behind its fixed fields, and one that asks for the most
+unfoldable pub length_examples : List Case
+length_examples =
+    is_refused Text (0x00 ∷ 0x01 ∷ 0x00 ∷ 0x01 ∷ 0x01 ∷ 0x00 ∷ 0x41 ∷ []) (refusal DeclaredLength 0x6B 6 7)
+    ∷ is_refused Text (0x00 ∷ 0x01 ∷ 0x00 ∷ 0x01 ∷ 0x01 ∷ 0xFF ∷ []) (refusal DeclaredLength 0x6B 261 6)
+    ∷ is_refused BioMatch (0x00 ∷ 0x01 ∷ 0x01 ∷ 0x32 ∷ 0x00 ∷ 0x00 ∷ 0xEE ∷ []) (refusal DeclaredLength 0x74 6 7)
+    ∷ is_refused BioMatch (0x00 ∷ 0x01 ∷ 0x01 ∷ 0x32 ∷ 0xFF ∷ 0xFF ∷ []) (refusal DeclaredLength 0x74 65541 6)
+    ∷ is_refused FileTransfer (replicate 11 0x00 ++ 0xAB ∷ []) (refusal DeclaredLength 0x7C 11 12)
+    ∷ is_refused FileTransfer (replicate 9 0x00 ++ 0xFF ∷ 0xFF ∷ []) (refusal DeclaredLength 0x7C 65546 11)
+    ∷ is_refused Raw (replicate 4 0x00 ++ 0xA5 ∷ []) (refusal DeclaredLength 0x50 4 5)
+    ∷ is_refused Raw (0x00 ∷ 0x00 ∷ 0xFF ∷ 0xFF ∷ []) (refusal DeclaredLength 0x50 8196 4)
+    ∷ is_refused Fmt (replicate 3 0x00 ++ 0x41 ∷ []) (refusal DeclaredLength 0x51 3 4)
+    ∷ is_refused Fmt (0x00 ∷ 0x00 ∷ 0xFF ∷ []) (refusal DeclaredLength 0x51 258 3)
+    ∷ is_refused BioReadR (0x00 ∷ 0x01 ∷ 0x01 ∷ 0x32 ∷ 0x00 ∷ 0x00 ∷ 0xEE ∷ []) (refusal DeclaredLength 0x57 6 7)
+    ∷ is_refused BioReadR (0x00 ∷ 0x01 ∷ 0x01 ∷ 0x32 ∷ 0xFF ∷ 0xFF ∷ []) (refusal DeclaredLength 0x57 65541 6)
+    ∷ is_refused Keypad (replicate 2 0x00 ++ 0x31 ∷ []) (refusal DeclaredLength 0x53 2 3)
+    ∷ is_refused Keypad (0x00 ∷ 0xFF ∷ []) (refusal DeclaredLength 0x53 257 2)
     ∷ []
 
 -- the number that C is told for each row

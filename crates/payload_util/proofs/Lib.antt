@@ -9,3 +9,4 @@ pub mod Forms
 pub mod Losses
 pub mod Limits
 pub mod Folds
+pub mod Examples

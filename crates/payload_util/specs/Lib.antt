@@ -6,4 +6,5 @@ pub mod Writing
 pub mod Loss
 pub mod Form
 pub mod Law
+pub mod Examples
 pub mod Prelude

@@ -27,7 +27,7 @@ pub enum Row {
     PayloadTooShort = 4,
     // the payload is empty, or its length no multiple: block, got
     PayloadNotMultiple = 5,
-    // a length or count field does not fit the payload
+    // a length or count field does not fit the payload: asked for in all, got
     DeclaredLength = 6,
     // an output code is above 6
     UnknownOutputCode = 7,
@@ -167,7 +167,7 @@ pub fn require_declared_len(payload: &[u8], asked: usize, code: u8) -> Result<()
 {
     require(
         payload.len() == asked,
-        Refusal::new(Row::DeclaredLength, code),
+        Refusal::with_values(Row::DeclaredLength, code, asked, payload.len()),
     )
 }
 
