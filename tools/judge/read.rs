@@ -53,21 +53,20 @@ fn added(side: Side, code: u8, len: usize) -> Result<(), Refusal> {
     }
 }
 
-/// The original refuses by row 6, and its error has no numbers: they are what the payload's field asks for in all, by kinds.txt, and what came. Stops if
-/// they do not go with the original's answer.
+/// The original's answer, with the two numbers that its row 6 lacks: what the payload's field asks for in all, by kinds.txt, and what came. Stops if they
+/// do not go with the answer.
 fn with_lengths(k: &Kind, p: &[u8], answer: Result<Record, Refusal>) -> Result<Record, Refusal> {
-    let (asked, got) = (k.asked(p), p.len());
+    let got = p.len();
+    let asked = k.asked(p).unwrap_or(got);
     match &answer {
+        Ok(_) => assert!(asked == got, "{}: its field asks for {asked} bytes, and the original reads {got}", k.name),
         Err(e) if e.row == DECLARED_LENGTH => {
-            let first = asked.filter(|&n| n != got).expect("row 6, and the field asks for another length");
-            Err(Refusal { first, second: got, ..*e })
+            assert!(asked != got, "{}: its field asks for {asked} bytes, and the original refuses them by row 6", k.name);
+            return Err(Refusal { first: asked, second: got, ..*e });
         }
-        Ok(_) => {
-            assert!(asked.is_none_or(|n| n == got), "{}: the field asks for {asked:?} bytes, and the original takes {got}", k.name);
-            answer
-        }
-        Err(_) => answer,
+        Err(_) => {}
     }
+    answer
 }
 
 /// Like a kind's own calls, without a limit on the payload's length.
