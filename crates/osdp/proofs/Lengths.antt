@@ -68,35 +68,38 @@ module _ (n c : ℕ) (more : List ℕ → ℕ) (rest : List ℕ → Guard) where
             unlike q f (sym (is q ∙ simp fits refl) ∙ w)),
       )
 
-u16_alike : (at : ℕ) (p q : List ℕ) → at + 2 ≤ length p → at + 2 ≤ length q → BeginAlike p q → u16_at p at ≡ u16_at q at
-u16_alike at p q lp lq b = simp (b at (omega arith) (omega arith), b (at + 1) (omega arith) (omega arith)) refl
+-- fields within the first n bytes are those of a payload that begins alike
+module _ (n at : ℕ) where
+  byte_alike : at + 1 ≤ n → (p q : List ℕ) → n ≤ length p → n ≤ length q → BeginAlike p q → byte_at p at ≡ byte_at q at
+  byte_alike inside p q lp lq b = b at (omega arith) (omega arith)
 
-passes : (p : List ℕ) → Unlike Pass
-passes p e h = absurd (no_refusal h)
+  u16_alike : at + 2 ≤ n → (p q : List ℕ) → n ≤ length p → n ≤ length q → BeginAlike p q → u16_at p at ≡ u16_at q at
+  u16_alike inside p q lp lq b = simp (b at (omega arith) (omega arith), b (at + 1) (omega arith) (omega arith)) refl
+
+-- a kind that checks nothing behind its length
+nothing_else : (p : List ℕ) → Unlike Pass
+nothing_else p e h = absurd (no_refusal h)
 
 pub six : RowSix
 unfolding exact_len at_least blocks_from declared_len read_output_code codes_known read_text_command printable text_shape check_template read_nak_error
+six Text =
+    counted 6 (code (form Text)) (λ p. byte_at p 5) (λ p. printable (drop 6 p) also guard_of (read_text_command (byte_at p 1))) text_unlike
+    (byte_alike 6 5 (omega arith)) (λ p. grind arith)
+six BioMatch = counted 6 (code (form BioMatch)) (λ p. u16_at p 4) (λ p. Pass) nothing_else (u16_alike 6 4 (omega arith)) (λ p. grind arith)
+six FileTransfer = counted 11 (code (form FileTransfer)) (λ p. u16_at p 9) (λ p. Pass) nothing_else (u16_alike 11 9 (omega arith)) (λ p. grind arith)
+six Raw =
+    counted 4 (code (form Raw)) (λ p. bytes_for (u16_at p 2)) (λ p. Pass) nothing_else
+    (λ p q lp lq b. ap bytes_for (u16_alike 4 2 (omega arith) p q lp lq b)) (λ p. grind arith)
+six Fmt = counted 3 (code (form Fmt)) (λ p. byte_at p 2) (λ p. Pass) nothing_else (byte_alike 3 2 (omega arith)) (λ p. grind arith)
+six BioReadR = counted 6 (code (form BioReadR)) (λ p. u16_at p 4) (λ p. Pass) nothing_else (u16_alike 6 4 (omega arith)) (λ p. grind arith)
+six Keypad = counted 2 (code (form Keypad)) (λ p. byte_at p 1) (λ p. Pass) nothing_else (byte_alike 2 1 (omega arith)) (λ p. grind arith)
 six Led = not_by_six (λ p e h s. grind (arith, order_unlike))
 six Out = not_by_six (λ p e h s. grind (arith, order_unlike))
-six Text = counted 6 (code (form Text)) (λ p. byte_at p 5) (λ p. printable (drop 6 p) also guard_of (read_text_command (byte_at p 1)))
-    text_unlike (λ p q lp lq b. b 5 (omega arith) (omega arith)) (λ p. grind arith)
 six BioRead = not_by_six (λ p e h s. grind arith)
-six BioMatch = counted 6 (code (form BioMatch)) (λ p. u16_at p 4) (λ p. Pass) passes
-    (λ p q lp lq b. u16_alike 4 p q (omega arith) (omega arith) b) (λ p. grind arith)
-six FileTransfer = counted 11 (code (form FileTransfer)) (λ p. u16_at p 9) (λ p. Pass) passes
-    (λ p q lp lq b. u16_alike 9 p q (omega arith) (omega arith) b) (λ p. grind arith)
 six Mfg = not_by_six (λ p e h s. grind arith)
-six Raw = counted 4 (code (form Raw)) (λ p. bytes_for (u16_at p 2)) (λ p. Pass) passes
-    (λ p q lp lq b. ap bytes_for (u16_alike 2 p q (omega arith) (omega arith) b)) (λ p. grind arith)
-six Fmt = counted 3 (code (form Fmt)) (λ p. byte_at p 2) (λ p. Pass) passes
-    (λ p q lp lq b. b 2 (omega arith) (omega arith)) (λ p. grind arith)
-six BioReadR = counted 6 (code (form BioReadR)) (λ p. u16_at p 4) (λ p. Pass) passes
-    (λ p q lp lq b. u16_alike 4 p q (omega arith) (omega arith) b) (λ p. grind arith)
 six BioMatchR = not_by_six (λ p e h s. grind arith)
 six Nak = not_by_six (λ p e h s. grind arith)
 six Xrd = not_by_six (λ p e h s. grind arith)
-six Keypad = counted 2 (code (form Keypad)) (λ p. byte_at p 1) (λ p. Pass) passes
-    (λ p q lp lq b. b 1 (omega arith) (omega arith)) (λ p. grind arith)
 six ComSet = not_by_six (λ p e h s. grind arith)
 six Com = not_by_six (λ p e h s. grind arith)
 six PdId = not_by_six (λ p e h s. grind arith)
