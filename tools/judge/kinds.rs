@@ -191,7 +191,7 @@ impl Kind {
         self.places().find(|(_, f)| f.highest().is_some())
     }
 
-    /// How many bytes a payload has to have in all, by its field for the tail's length. None if the kind has no such field, or the payload is too short.
+    /// How many bytes a payload has to have in all, by its field for the tail's length. None if the kind has none, or the payload is too short for it.
     pub fn asked(&self, payload: &[u8]) -> Option<usize> {
         let (at, field) = self.declared()?;
         let bytes = payload.get(at..at + field.width())?;

@@ -53,8 +53,8 @@ fn added(side: Side, code: u8, len: usize) -> Result<(), Refusal> {
     }
 }
 
-/// The original's answer, with the two numbers that its row 6 lacks: what the payload's field asks for in all, by kinds.txt, and what came. Stops if they
-/// do not go with the answer.
+/// The original's answer, with the two numbers that its row 6 lacks: what the payload's field asks for in all, by kinds.txt, and what came. Stops if
+/// they do not go with the answer.
 fn with_lengths(k: &Kind, p: &[u8], answer: Result<Record, Refusal>) -> Result<Record, Refusal> {
     let got = p.len();
     let asked = k.asked(p).unwrap_or(got);

@@ -10,7 +10,7 @@ pub struct Refusal {
     pub second: usize,
 }
 
-/// The row of which the numbers are not the original's (read.rs).
+/// The row for a length or count that does not fit. Its two numbers are not the original's (read.rs).
 pub const DECLARED_LENGTH: u8 = 6;
 
 static REASONS: LazyLock<Vec<(&str, u8)>> = LazyLock::new(|| {

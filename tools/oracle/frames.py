@@ -198,7 +198,8 @@ def other_lengths():
             yield read(f + b, refused(6, 0, len(f), len(f) + 1))
             yield read(b + f, None if b == b"\x53" else refused(20))
         f = level(side.top, crc, side.code, MOST)
-        yield from (read(f[:-1], refused(6, 0, MOST, MOST - 1)), read(f + b"\0", refused(22)), read(b"\0" + f, refused(20)), read(b"\x53" + f, refused(22)))
+        yield read(f[:-1], refused(6, 0, MOST, MOST - 1))
+        yield from (read(f + b"\0", refused(22)), read(b"\0" + f, refused(20)), read(b"\x53" + f, refused(22)))
 
 
 # what a frame can be refused for, in the order in which it is

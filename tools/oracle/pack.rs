@@ -2,7 +2,7 @@
 use crate::answer::{names, Answer, Case};
 use judge::frame::Frame;
 use judge::kinds::{Field, Kind, KINDS};
-use judge::refusal::Refusal;
+use judge::refusal::{Refusal, DECLARED_LENGTH};
 use std::borrow::Cow;
 use std::cmp::Ordering::{self, Greater, Less};
 use std::collections::{BTreeMap, BTreeSet};
@@ -19,8 +19,6 @@ const OF_KIND: usize = 2;
 const NEW_COLOUR: usize = 3;
 /// Up to this many bytes are stored as they are.
 const SHORT: usize = 64;
-/// The row that says what a payload's fields ask for, and what came.
-const DECLARED_LENGTH: u8 = 6;
 
 /// One byte below 255, or 255 and then eight bytes.
 fn number(out: &mut Vec<u8>, n: usize) {
@@ -206,8 +204,8 @@ impl Tally {
         rows
     }
 
-    /// What row 6 never said of a kind with a length or a count: more than asked for, where no tail is, where the longest is, and between; and less than the
-    /// longest asked for, and than one between.
+    /// What row 6 never said of a kind with a length or a count: more than asked for, where that is no tail, the longest, or one between; and less, where
+    /// that is the longest or one between.
     fn lengths_lacking(&self) -> Vec<String> {
         let mut lacking = Vec::new();
         for (k, (_, field)) in KINDS.iter().filter_map(|k| Some((k, k.declared()?))) {
