@@ -1,16 +1,17 @@
 -- The code bytes of refusals.
 -- Assumes nothing.
-use mathlib.Core.Path.{◌≡◌, refl, sym, ◌∙◌}
+use mathlib.Core.Path.{◌≡◌, sym, ◌∙◌}
 use mathlib.Core.Bool.{Bool, true, false}
 use mathlib.Core.List.{List}
 use mathlib.Core.Logic.{◌⊎◌, inl, inr}
 use Prim.Native.Nat.{ℕ}
 use lib.ListN.{length}
 use Rattle.payload_util.specs.Bytes.{byte_at}
-use Rattle.payload_util.specs.Refusals.{require, ◌also◌, Outcome, Guard, refusal}
+use Rattle.payload_util.specs.Refusals.{◌also◌, Guard, refusal}
 use Rattle.payload_util.specs.Guards.{at_least, declared_len, room}
-use Rattle.payload_util.specs.Outcome.{outcome, guard_of}
+use Rattle.payload_util.specs.Outcome.{outcome}
 use Rattle.payload_util.proofs.Guards.{no_refusal}
+use Rattle.payload_util.proofs.Refusing.{Each, by_row, by_both, by_code}
 use Rattle.payload_util.specs.Writing.{effect}
 use Rattle.payload_util.specs.declared.Refusal.{Refusal}
 use Rattle.codes.specs.CommandCode.{read_command}
@@ -21,26 +22,6 @@ use Rattle.frame.specs.Frame.{right_check, known_code, front, control, check_fra
 use Rattle.frame.specs.Promises.{CodeBytes}
 use Rattle.std.specs.Prelude.{Ok, Err}
 use Rattle.payload_util.specs.declared.Row.TheVariants.{UnknownCommand, UnknownReply}
-
--- each refusal of a guard is such
-unfoldable Each : (Refusal → Type 0) → Guard → Type 0
-Each P g = (e : Refusal) → g ≡ Err e → P e
-
-module _ (P : Refusal → Type 0) where
-  by_row : (b : Bool) (x : Refusal) → P x → Each P (require b x)
-  unfolding Each
-  by_row true x h e q = absurd (no_refusal q)
-  by_row false x h e q = let s : x ≡ e = cc in rw (← s) h
-
-  by_both : (g h : Guard) → Each P g → Each P h → Each P (g also h)
-  unfolding Each
-  by_both (Ok _) h a b e q = b e q
-  by_both (Err x) h a b e q = a e q
-
-  by_code : {C : Type 0} (o : Outcome C) → ((x : Refusal) → o ≡ Err x → P x) → Each P (guard_of o)
-  unfolding Each
-  by_code (Ok c) h e q = absurd (no_refusal q)
-  by_code (Err x) h e q = let s : x ≡ e = cc in rw (← s) (h x refl)
 
 -- what a code table refuses, it refuses by its row
 command_row : (b : ℕ) (x : Refusal) → read_command b ≡ Err x → x ≡ refusal UnknownCommand b 0 0

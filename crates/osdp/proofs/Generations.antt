@@ -2,7 +2,7 @@
 -- Assumes nothing.
 use mathlib.Core.Path.{◌≡◌, refl, sym, ap, ◌∙◌}
 use mathlib.Core.List.{List, [], ◌∷◌}
-use Prim.Native.Nat.{ℕ, zero, suc, ◌*◌, ◌/◌}
+use Prim.Native.Nat.{ℕ, ◌*◌, ◌/◌}
 use native.Mathlib.Omega.{arith}
 use lib.ListN.{length}
 use Rattle.std.specs.Prelude.{Ok, Err}
@@ -15,6 +15,7 @@ use Rattle.payload_util.specs.declared.Refusal.{Refusal}
 use Rattle.payload_util.specs.declared.Row.TheVariants.{Folded, SecondGenerationColor}
 use Rattle.payload_util.proofs.Guards.{also_pass, multiple_pass}
 use Rattle.payload_util.proofs.Limits.{row_given}
+use Rattle.payload_util.proofs.Refusing.{Each, by_order}
 use Rattle.led.specs.declared.Generation.{Generation}
 use Rattle.led.specs.declared.Generation.TheVariants.{First, Second}
 use Rattle.led.specs.Led.{led_code}
@@ -41,9 +42,8 @@ abbrev pub Never : {A : Type 0} → Outcome A → Type 0
 Never o = (e : Refusal) → o ≡ Err e → e.row ≡ SecondGenerationColor → ⊥
 
 order_never : (f : ℕ → Guard) (i n : ℕ) → ((k : ℕ) → Never (f k)) → Never (in_order f i n)
-unfolding in_order
-order_never f i zero each e h s = grind arith
-order_never f i (suc n) each e h s = let rest : Never (in_order f (suc i) n) = order_never f (suc i) n each in grind arith
+unfolding Each
+order_never = by_order (λ e. e.row ≡ SecondGenerationColor → ⊥)
 
 never : (k : Kind) (p : List ℕ) → Never (check_of (form k) p)
 unfolding exact_len at_least blocks_from declared_len read_output_code codes_known read_text_command printable text_shape check_template read_nak_error

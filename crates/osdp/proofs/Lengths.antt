@@ -2,16 +2,17 @@
 -- Assumes nothing.
 use mathlib.Core.Path.{◌≡◌, refl, sym, ap, ◌∙◌}
 use mathlib.Core.List.{List}
-use Prim.Native.Nat.{ℕ, zero, suc, ◌+◌, ◌≤◌}
+use Prim.Native.Nat.{ℕ, ◌+◌, ◌≤◌}
 use native.Mathlib.Omega.{arith}
 use lib.ListN.{length, drop}
-use Rattle.std.specs.Prelude.{Ok, Err}
+use Rattle.std.specs.Prelude.{Err}
 use Rattle.payload_util.specs.Bytes.{byte_at, u16_at}
 use Rattle.payload_util.specs.Refusals.{◌also◌, in_order, Guard, Pass}
 use Rattle.payload_util.specs.Guards.{exact_len, at_least, blocks_from, declared_len, head_and_tail}
 use Rattle.payload_util.specs.Outcome.{guard_of}
 use Rattle.payload_util.specs.Form.{code}
 use Rattle.payload_util.proofs.Guards.{no_refusal, pass_head_and_tail}
+use Rattle.payload_util.proofs.Refusing.{Each, by_both, by_order}
 use Rattle.payload_util.specs.declared.Refusal.{Refusal}
 use Rattle.payload_util.specs.declared.Row.TheVariants.{PayloadTooShort, DeclaredLength}
 use Rattle.output.specs.Output.{read_output_code, codes_known}
@@ -23,23 +24,21 @@ use Rattle.osdp.specs.declared.Kind.TheVariants.{Led, Out, Text, BioRead, BioMat
 use Rattle.osdp.specs.Kinds.{form}
 use Rattle.osdp.specs.Promises.{BeginAlike, TellsLengths, RowSix}
 
--- it refuses for no length
+-- a refusal that is not for a length
+abbrev pub NoLength : Refusal → Type 0
+NoLength e = (e.row ≡ DeclaredLength → ⊥) × (e.row ≡ PayloadTooShort → ⊥)
+
 abbrev pub Unlike : Guard → Type 0
-Unlike g = (e : Refusal) → g ≡ Err e → (e.row ≡ DeclaredLength → ⊥) × (e.row ≡ PayloadTooShort → ⊥)
+Unlike g = (e : Refusal) → g ≡ Err e → NoLength e
 
 order_unlike : (f : ℕ → Guard) (i n : ℕ) → ((k : ℕ) → Unlike (f k)) → Unlike (in_order f i n)
-unfolding in_order
-order_unlike f i zero each e h = grind arith
-order_unlike f i (suc n) each e h = let rest : Unlike (in_order f (suc i) n) = order_unlike f (suc i) n each in grind arith
-
-both_unlike : (g h : Guard) → Unlike g → Unlike h → Unlike (g also h)
-both_unlike (Ok _) h u v = v
-both_unlike (Err r) h u v = u
+unfolding Each
+order_unlike = by_order NoLength
 
 text_unlike : (p : List ℕ) → Unlike (printable (drop 6 p) also guard_of (read_text_command (byte_at p 1)))
-unfolding printable read_text_command
+unfolding Each printable read_text_command
 text_unlike p =
-    both_unlike (printable (drop 6 p)) (guard_of (read_text_command (byte_at p 1)))
+    by_both NoLength (printable (drop 6 p)) (guard_of (read_text_command (byte_at p 1)))
     (order_unlike (printable_at (drop 6 p)) 0 (length (drop 6 p)) (λ k e h. grind arith)) (λ e h. grind arith)
 
 -- checks that never refuse by row 6

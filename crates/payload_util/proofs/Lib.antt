@@ -1,4 +1,5 @@
 pub mod Guards
+pub mod Refusing
 pub mod Parts
 pub mod Table
 pub mod InOrder
