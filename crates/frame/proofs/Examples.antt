@@ -6,7 +6,7 @@ use Rattle.codes.specs.CommandCode.{read_command}
 use Rattle.codes.specs.ReplyCode.{read_reply}
 use Rattle.crc.specs.Crc.{crc_bit, crc_bits, crc_byte}
 use Rattle.frame.specs.Frame.{check_over, right_check, known_code, front, control, check_frame, refuse_frame}
-use Rattle.frame.specs.Examples.{Published, InOrder, WriterInOrder}
+use Rattle.frame.specs.Examples.{Published, InOrder, WriterInOrder, Streams}
 
 pub published : Published
 unfolding at_least declared_len room read_command read_reply crc_bit crc_bits crc_byte check_over right_check known_code front control check_frame refuse_frame
@@ -20,3 +20,7 @@ in_order_lem =
 pub writer_in_order : WriterInOrder
 unfolding room read_command read_reply crc_bit crc_bits crc_byte check_over known_code refuse_frame
 writer_in_order = (refl, refl, refl, refl, refl, refl, refl)
+
+pub streams : Streams
+unfolding at_least declared_len read_command read_reply crc_bit crc_bits crc_byte check_over right_check known_code front control check_frame
+streams = (refl, refl, refl, refl, refl, refl, refl, refl, refl, refl, refl, refl, refl, refl)

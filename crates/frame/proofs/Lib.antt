@@ -4,3 +4,4 @@ pub mod Examples
 pub mod Forth
 pub mod Laws
 pub mod Promises
+pub mod Streams

@@ -1,8 +1,10 @@
--- Frames with their answers: published ones, one for each refusal, and pairs of faults of which the earlier row is given.
+-- Frames with their answers: published ones, one for each refusal, and pairs of faults of which the earlier row is given; and streams.
 use Rattle.std.specs.Prelude.{Bool, true, false, replicate, ◌≡◌, List, [], ◌∷◌, ◌++◌, ℕ, Ok, Err}
 use Rattle.payload_util.specs.declared.Refusal.{Refusal}
 use Rattle.frame.specs.declared.Frame.{Frame}
+use Rattle.frame.specs.declared.scanner.Scanned.TheVariants.{Read, Damaged, Other, More}
 use Rattle.frame.specs.Frame.{read_frame, frame_payload, write_frame}
+use Rattle.frame.specs.Scan.{scan}
 use Rattle.payload_util.specs.Refusals.{refusal}
 use Rattle.payload_util.specs.declared.Row.TheVariants.{BufferTooShort, DeclaredLength, FrameTooLong, NotAFrame, PayloadTooShort, UnknownCommand, UnknownReply, WrongCheck}
 
@@ -59,3 +61,32 @@ WriterInOrder =
     × NotWritten (frame 127 false 3 false 0x60) (replicate 1434 0) (refusal FrameTooLong 0x60 0 0)
     × NotWritten (frame 127 false 3 true 0x60) (replicate 1433 0) (refusal FrameTooLong 0x60 0 0)
     × NotWritten (frame 127 false 3 true 0x60) (replicate 1432 0) (refusal BufferTooShort 0x60 1440 1)
+
+abbrev pub poll : List ℕ
+poll = 0x53 ∷ 0x00 ∷ 0x08 ∷ 0x00 ∷ 0x04 ∷ 0x60 ∷ 0xEB ∷ 0xAA ∷ []
+
+abbrev pub polled : Frame
+polled = frame 0 false 0 true 0x60
+
+-- what a stream has at its front, while more may come, and once it has ended
+abbrev pub Streams : Type 0
+Streams =
+    (scan [] false ≡ More 7)
+    × (scan [] true ≡ More 7)
+    × (scan (0xFF ∷ []) false ≡ Other 1)
+    × (scan (0xFF ∷ 0xFF ∷ 0x00 ∷ poll) false ≡ Other 3)
+    -- a frame, whatever follows it
+    × (scan poll false ≡ Read polled 8)
+    × (scan (poll ++ 0xFF ∷ 0x53 ∷ []) true ≡ Read polled 8)
+    -- one that is not all there
+    × (scan (0x53 ∷ []) false ≡ More 7)
+    × (scan (0x53 ∷ 0x00 ∷ 0x08 ∷ 0x00 ∷ 0x04 ∷ 0x60 ∷ 0xEB ∷ []) false ≡ More 8)
+    × (scan (0x53 ∷ 0x00 ∷ 0x08 ∷ 0x00 ∷ 0x04 ∷ 0x60 ∷ 0xEB ∷ []) true ≡ Damaged (refusal DeclaredLength 0 8 7) 7)
+    × (scan (0x53 ∷ 0x00 ∷ []) true ≡ Damaged (refusal PayloadTooShort 0 7 2) 2)
+    -- one that is refused, up to the next byte that can begin one, here within it
+    × (scan (0x53 ∷ 0x00 ∷ 0x08 ∷ 0x00 ∷ 0x04 ∷ 0x53 ∷ 0xEB ∷ 0xAA ∷ []) false ≡ Damaged (refusal WrongCheck 0 0 0) 5)
+    -- a length field of a frame with one byte too many, which is not waited for, and with none too many
+    × (scan (0x53 ∷ 0x00 ∷ 0xA1 ∷ 0x05 ∷ 0x04 ∷ 0x60 ∷ 0xEB ∷ []) false ≡ Damaged (refusal FrameTooLong 0 0 0) 7)
+    × (scan (0x53 ∷ 0x00 ∷ 0xA0 ∷ 0x05 ∷ 0x04 ∷ 0x60 ∷ 0xEB ∷ []) false ≡ More 1440)
+    -- one with no room for the fields
+    × (scan (0x53 ∷ 0x00 ∷ 0x06 ∷ 0x00 ∷ 0x04 ∷ 0x60 ∷ 0xEB ∷ 0x53 ∷ []) false ≡ Damaged (refusal PayloadTooShort 0 7 6) 7)

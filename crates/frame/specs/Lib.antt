@@ -1,3 +1,4 @@
 pub mod Frame
+pub mod Scan
 pub mod Promises
 pub mod Examples

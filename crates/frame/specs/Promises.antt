@@ -1,11 +1,13 @@
 -- The theorems of frames.
 use Rattle.payload_util.specs.Bytes.{Bytes}
 use Rattle.payload_util.specs.Writing.{Leaves}
-use Rattle.std.specs.Prelude.{◌⊎◌, ◌≡◌, List, ℕ, ◌≤◌, take, Ok, Err}
+use Rattle.std.specs.Prelude.{◌⊎◌, ◌≡◌, Bool, true, false, List, [], ◌++◌, ℕ, ◌≤◌, ◌<◌, length, take, drop, Ok, Err}
 use Rattle.payload_util.specs.Prelude.{byte_at, put}
 use Rattle.payload_util.specs.declared.Refusal.{Refusal}
 use Rattle.frame.specs.declared.Frame.{Frame}
+use Rattle.frame.specs.declared.scanner.Scanned.TheVariants.{Read, Damaged, Other, More}
 use Rattle.frame.specs.Frame.{longest, read_frame, payload_in, frame_payload, write_frame}
+use Rattle.frame.specs.Scan.{scan}
 use Rattle.payload_util.specs.Refusals.{refusal}
 use Rattle.payload_util.specs.declared.Row.TheVariants.{UnknownCommand, UnknownReply}
 
@@ -36,3 +38,38 @@ CodeBytes =
 -- R7.2: what a writer leaves of a buffer
 abbrev pub Untouched : Type 0
 Untouched = (r : Frame) (p out : List ℕ) → Leaves (write_frame r p out) out
+
+-- a stream has a good frame at its front
+abbrev pub BeginsFrame : List ℕ → Type 0
+BeginsFrame s = (n : ℕ) × (r : Frame) × (read_frame (take n s) ≡ Ok r)
+
+-- at none of the first n places of a stream does a good frame begin
+abbrev pub NoFrame : ℕ → List ℕ → Type 0
+NoFrame n s = (i : ℕ) → i < n → BeginsFrame (drop i s) → ⊥
+
+-- a good frame at the front is found, whatever follows it
+abbrev pub FindsFrames : Type 0
+FindsFrames = (f t : List ℕ) (r : Frame) (ended : Bool) → read_frame f ≡ Ok r → scan (f ++ t) ended ≡ Read r (length f)
+
+-- what is found is a good frame, of bytes that are there
+abbrev pub FoundIsRead : Type 0
+FoundIsRead =
+    (s : List ℕ) (ended : Bool) (r : Frame) (n : ℕ) → scan s ended ≡ Read r n
+    → (7 ≤ n) × (n ≤ length s) × (read_frame (take n s) ≡ Ok r)
+
+-- no place is passed over at which a good frame begins, whatever bytes still come; and something is passed over, of the bytes that are there
+abbrev pub PassesNone : Type 0
+PassesNone =
+    (s t : List ℕ) (ended : Bool) (n : ℕ) → (ended ≡ true → t ≡ []) → (scan s ended ≡ Other n) ⊎ ((e : Refusal) × (scan s ended ≡ Damaged e n))
+    → (1 ≤ n) × (n ≤ length s) × NoFrame n (s ++ t)
+
+-- more bytes are asked for only if there are fewer, and never more than a frame may have; once a stream has ended, only where nothing is left
+abbrev pub WaitsShortly : Type 0
+WaitsShortly =
+    (s : List ℕ) (ended : Bool) (n : ℕ) → scan s ended ≡ More n → (length s < n) × (n ≤ longest) × (ended ≡ true → s ≡ [])
+
+-- a refusal is the same however the bytes come in parts; more of them may be passed over
+abbrev pub SameInParts : Type 0
+SameInParts =
+    (s t : List ℕ) (ended : Bool) (e : Refusal) (n : ℕ) → scan s false ≡ Damaged e n
+    → (m : ℕ) × (scan (s ++ t) ended ≡ Damaged e m) × (n ≤ m)

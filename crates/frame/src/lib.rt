@@ -1,13 +1,16 @@
-// The frame round a payload: 0x53, address, whole length u16, control, code, payload, check.
+// The frame round a payload: 0x53, address, whole length u16, control, code, payload, check; and the frames of a stream of bytes.
 #![tactic(auto)]
 
 ghost use Rattle.std.specs.Prelude.{◌≡◌, ◌++◌, ◌+◌, ◌≤◌, ◌<◌, cond, length};
 ghost use Rattle.frame.specs.Frame.{known_code, check_len, check_over, right_check, front, control, check_frame, fields_of, read_frame, payload_in, frame_payload, head_bytes, refuse_frame, write_frame};
 
+mod scanner;
+
 use codes::{CommandCode, ReplyCode};
 use payload_util::{
     Refusal, Row, byte_at, put_parts, require, require_at_least, require_declared_len, u16_at,
 };
+pub use scanner::{Scanned, scan};
 
 // What a frame says beside its payload.
 #[derive(Clone, Copy, Debug, PartialEq, Eq)]

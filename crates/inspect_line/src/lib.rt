@@ -1,11 +1,11 @@
-// A line of the input, taken byte by byte: `command` or `reply`, the code byte, and the payload, all bytes in hex.
+// A line of the input, taken byte by byte: `command` or `reply`, the code byte, and the payload, or `frame` and a frame; all bytes in hex.
 #![tactic(auto)]
 
 use arrayvec::ArrayVec;
 use osdp::Side;
 use std::fmt;
 
-// The longest payload that is taken: one byte above what the library takes, so that row 28 can be seen.
+// The most bytes of a payload or a frame that are taken: one above what the library takes of a payload, so that row 28 can be seen.
 pub const LONGEST: usize = 65547;
 
 // The most bytes of a wrong first word that are shown. One more is kept, which tells that the word is longer.
@@ -29,6 +29,13 @@ pub struct Head {
     pub code: u8,
 }
 
+// What the bytes of a line are.
+#[derive(Clone, Copy, Debug, PartialEq, Eq)]
+pub enum Content {
+    Payload(Head),
+    Frame,
+}
+
 // What the next byte belongs to, and what is known by then.
 #[derive(Clone, Copy, Debug, PartialEq, Eq)]
 pub enum Place {
@@ -41,12 +48,12 @@ pub enum Place {
     Code(Side, u8),
     // the blank after the code
     Coded(Head),
-    Payload(Head),
+    Bytes(Content),
     // the second digit of a byte, after this one
-    Half(Head, u8),
-    // the rest is passed over: nothing stood before it, a payload, or a fault
+    Half(Content, u8),
+    // the rest is passed over: nothing stood before it, a payload or a frame, or a fault
     Comment,
-    Whole(Head),
+    Whole(Content),
     Bad(Fault),
 }
 
@@ -56,7 +63,7 @@ pub struct Line {
     pub number: usize,
     pub column: usize,
     pub place: Place,
-    // the payload, or before it the word
+    // the payload or the frame, or before it the word
     bytes: ArrayVec<u8, LONGEST>,
 }
 
@@ -85,26 +92,26 @@ fn code(side: Side, high: u8, b: u8) -> Result<Place, Fault> {
     Ok(Place::Coded(Head { side, code }))
 }
 
-// Before a byte of the payload.
-fn payload(head: Head, b: u8) -> Result<Place, Fault> {
+// Before a byte of the payload or of the frame.
+fn bytes(content: Content, b: u8) -> Result<Place, Fault> {
     if is_blank(b) {
-        return Ok(Place::Payload(head));
+        return Ok(Place::Bytes(content));
     }
     if b == b'#' {
-        return Ok(Place::Whole(head));
+        return Ok(Place::Whole(content));
     }
-    Ok(Place::Half(head, digit(b, Fault::Digit)?))
+    Ok(Place::Half(content, digit(b, Fault::Digit)?))
 }
 
 impl fmt::Display for Fault {
     fn fmt<W: fmt::Write>(&self, f: &mut fmt::Formatter<W>) -> fmt::Result {
         f.write_str(match self {
-            Fault::Word => "the line has to begin with command or reply, not with",
+            Fault::Word => "the line has to begin with command, reply or frame, not with",
             Fault::NoCode => "no code byte after the word",
             Fault::Code => "the code byte has to have two hex digits",
             Fault::Digit => "not a hex digit",
             Fault::Odd => "half a byte, its second hex digit is missing",
-            Fault::TooLong => "payload of more than 65,547 bytes",
+            Fault::TooLong => "more than 65,547 bytes",
         })
     }
 }
@@ -137,7 +144,7 @@ impl Line {
         self.bytes.clear();
     }
 
-    // The payload; of a line that is wrong in its first word, that word.
+    // The payload or the frame; of a line that is wrong in its first word, that word.
     pub fn bytes(&self) -> &[u8]
         ensures { result.now ≡ bytes_of self.now }
     {
@@ -166,19 +173,20 @@ impl Line {
 
     // After the word.
     fn named(&mut self, column: usize) -> Result<Place, Fault> {
-        let side = match self.bytes() {
-            b"command" => Side::Command,
-            b"reply" => Side::Reply,
+        let place = match self.bytes() {
+            b"command" => Place::Gap(Side::Command),
+            b"reply" => Place::Gap(Side::Reply),
+            b"frame" => Place::Bytes(Content::Frame),
             _ => {
                 self.column = column;
                 return Err(Fault::Word);
             }
         };
         self.bytes.clear();
-        Ok(Place::Gap(side))
+        Ok(place)
     }
 
-    fn half(&mut self, head: Head, high: u8, b: u8) -> Result<Place, Fault> {
+    fn half(&mut self, content: Content, high: u8, b: u8) -> Result<Place, Fault> {
         if is_blank(b) {
             return Err(Fault::Odd);
         }
@@ -187,7 +195,7 @@ impl Line {
             return Err(Fault::TooLong);
         }
         self.bytes.push(byte);
-        Ok(Place::Payload(head))
+        Ok(Place::Bytes(content))
     }
 
     // What follows one more byte.
@@ -197,10 +205,10 @@ impl Line {
             Place::Word(column) => self.word(column, b),
             Place::Gap(side) => gap(side, b),
             Place::Code(side, high) => code(side, high, b),
-            Place::Coded(head) if is_blank(b) => Ok(Place::Payload(head)),
+            Place::Coded(head) if is_blank(b) => Ok(Place::Bytes(Content::Payload(head))),
             Place::Coded(_) => Err(Fault::Code),
-            Place::Payload(head) => payload(head, b),
-            Place::Half(head, high) => self.half(head, high, b),
+            Place::Bytes(content) => bytes(content, b),
+            Place::Half(content, high) => self.half(content, high, b),
             Place::Comment | Place::Whole(_) => Ok(self.place),
             Place::Bad(fault) => Err(fault),
         }
@@ -215,7 +223,7 @@ impl Line {
         self.place = self.next(b).unwrap_or_else(Place::Bad);
     }
 
-    // Ends the line, where a blank completes what it ends in: its place is then Payload or Whole, Bad, or one that holds nothing.
+    // Ends the line, where a blank completes what it ends in: its place is then Bytes or Whole, Bad, or one that holds nothing.
     pub fn end(&mut self) {
         self.take(b' ');
         if matches!(self.place, Place::Gap(_)) {
