@@ -4,7 +4,7 @@ use inspect_fields::{of, tail};
 use inspect_form::names;
 use inspect_form::sentences::sentence;
 use inspect_form::shown::Hex;
-use inspect_line::{Head, Line};
+use inspect_line::Head;
 use led::{Generation, LedRecord};
 use lists::ListRecord;
 use osdp::{Kind, Side};
@@ -13,21 +13,22 @@ use payload_util::Refusal;
 use std::io;
 use std::io::Write;
 
-pub(crate) fn title<W: Write>(line: &Line, head: Head, out: &mut W) -> io::Result<()> {
+// What stands before a payload, and how long it is.
+fn heading<W: Write>(head: Head, len: usize, out: &mut W) -> io::Result<()> {
     let code = head.code;
     let (side, name) = match head.side {
         Side::Command => ("command", names::command(code)),
         Side::Reply => ("reply", names::reply(code)),
     };
-    write!(out, "line {}: {side} {code:02X}", line.number)?;
+    write!(out, "{side} {code:02X}")?;
     if let Some(name) = name {
         write!(out, " {name}")?;
     }
-    writeln!(out, ", length {}", line.bytes().len())
+    writeln!(out, ", length {len}")
 }
 
 // A refusal: its row's number, its two numbers, and what it means.
-pub(crate) fn refusal<W: Write>(e: Refusal, out: &mut W) -> io::Result<()> {
+pub fn refusal<W: Write>(e: Refusal, out: &mut W) -> io::Result<()> {
     writeln!(
         out,
         "refused, row {} ({}, {}): {}",
@@ -85,16 +86,32 @@ fn normalised<W: Write>(head: Head, p: &[u8], space: &mut [u8], out: &mut W) -> 
 }
 
 // A payload that was not refused. The space is for RAW's bits and for the normalised bytes.
-pub(crate) fn accepted<W: Write>(
-    head: Head,
-    p: &[u8],
-    space: &mut [u8],
-    out: &mut W,
-) -> io::Result<()> {
+fn accepted<W: Write>(head: Head, p: &[u8], space: &mut [u8], out: &mut W) -> io::Result<()> {
     let Ok(kind) = osdp::kind_of(head.side, head.code) else {
         return Ok(());
     };
     records(kind, p, tail(kind, p, &mut *space), out)?;
     strict(head, p, out)?;
     normalised(head, p, space, out)
+}
+
+// A payload under its heading, or its refusal; and which of the two it was.
+pub(crate) fn payload<W: Write>(
+    head: Head,
+    p: &[u8],
+    space: &mut [u8],
+    out: &mut W,
+) -> io::Result<bool> {
+    heading(head, p.len(), &mut *out)?;
+    match osdp::check(head.side, head.code, p) {
+        Ok(()) => {
+            accepted(head, p, space, out)?;
+            Ok(true)
+        }
+        Err(e) => {
+            write!(out, "  ")?;
+            refusal(e, out)?;
+            Ok(false)
+        }
+    }
 }

@@ -1,10 +1,9 @@
 // The lines of the input, one after another, and how many of each sort there were.
-ghost use Rattle.std.specs.Prelude.{◌≤◌, length, IfOk};
-
-use crate::answer::{accepted, refusal, title};
-use crate::failure::fail;
+use crate::answer::payload;
+use crate::failure::read;
+use crate::framed;
 use inspect_form::shown::Text;
-use inspect_line::{Fault, Head, LONGEST, Line, Place, WORD_SHOWN};
+use inspect_line::{Content, Fault, LONGEST, Line, Place, WORD_SHOWN};
 use std::io;
 use std::io::{Read, Write};
 
@@ -30,7 +29,7 @@ impl Input {
         }
     }
 
-    // A line that is no payload. If its first word is wrong, that is shown.
+    // A line that is no payload and no frame. If its first word is wrong, that is shown.
     fn complain<W: Write>(&mut self, fault: Fault, out: &mut W) -> io::Result<()> {
         self.bad = self.bad.saturating_add(1);
         let line = &self.line;
@@ -45,26 +44,29 @@ impl Input {
         }
     }
 
-    fn answer<W: Write>(&mut self, head: Head, out: &mut W) -> io::Result<()> {
-        let p = self.line.bytes();
-        title(&self.line, head, out)?;
-        match osdp::check(head.side, head.code, p) {
-            Ok(()) => {
-                self.read = self.read.saturating_add(1);
-                accepted(head, p, &mut self.space, out)
-            }
-            Err(e) => {
-                self.refused = self.refused.saturating_add(1);
-                write!(out, "  ")?;
-                refusal(e, out)
-            }
+    // What the line holds; whether it was accepted.
+    fn show<W: Write>(&mut self, content: Content, out: &mut W) -> io::Result<bool> {
+        let bytes = self.line.bytes();
+        match content {
+            Content::Payload(head) => payload(head, bytes, &mut self.space, out),
+            Content::Frame => framed::whole(bytes, &mut self.space, out),
         }
+    }
+
+    fn answer<W: Write>(&mut self, content: Content, out: &mut W) -> io::Result<()> {
+        write!(out, "line {}: ", self.line.number)?;
+        if self.show(content, out)? {
+            self.read = self.read.saturating_add(1);
+        } else {
+            self.refused = self.refused.saturating_add(1);
+        }
+        Ok(())
     }
 
     fn end_line<W: Write>(&mut self, out: &mut W) -> io::Result<()> {
         self.line.end();
         match self.line.place {
-            Place::Payload(head) | Place::Whole(head) => self.answer(head, out),
+            Place::Bytes(content) | Place::Whole(content) => self.answer(content, out),
             Place::Bad(fault) => self.complain(fault, out),
             _ => Ok(()),
         }
@@ -85,7 +87,7 @@ impl Input {
     fn close<W: Write>(mut self, out: &mut W) -> io::Result<()> {
         self.end_line(out)?;
         match (self.read, self.refused, self.bad) {
-            (0, 0, 0) => writeln!(out, "no payload in the input"),
+            (0, 0, 0) => writeln!(out, "no payload and no frame in the input"),
             (read, refused, bad) => {
                 writeln!(out, "read {read}, refused {refused}, bad lines {bad}")
             }
@@ -93,7 +95,7 @@ impl Input {
     }
 }
 
-// The payloads of an open file, up to its end or to a read that fails. There are more turns than any file needs.
+// The payloads and frames of an open file, up to its end or to a read that fails. There are more turns than any file needs.
 pub fn all<P: Eprint + AllocGlobal, R: Read, W: Write>(
     rt: &P,
     from: &mut R,
@@ -111,21 +113,4 @@ pub fn all<P: Eprint + AllocGlobal, R: Read, W: Write>(
         }
     }
     input.close(out)
-}
-
-// How many bytes a read brought; 0 at the end, and for a read that fails, which is said.
-fn read<P: Eprint + AllocGlobal, R: Read>(
-    rt: &P,
-    from: &mut R,
-    buffer: &mut [u8],
-) -> io::Result<usize>
-    ensures { IfOk result (λ n. n ≤ length buffer.new) }
-{
-    match from.read(buffer) {
-        Ok(n) => Ok(n),
-        Err(e) => {
-            fail(rt, "inspect: cannot read", e)?;
-            Ok(0)
-        }
-    }
 }

@@ -1,7 +1,8 @@
-// Payloads in words, line by line.
+// Payloads and frames in words, line by line.
 #![tactic(auto)]
 
-mod answer;
+pub mod answer;
 pub mod failure;
+pub mod framed;
 pub mod input;
 mod record;

@@ -1,7 +1,10 @@
 // A line of the input, taken byte by byte: `command` or `reply`, the code byte, and the payload, or `frame` and a frame; all bytes in hex.
 #![tactic(auto)]
 
+mod digits;
+
 use arrayvec::ArrayVec;
+pub use digits::Digits;
 use osdp::Side;
 use std::fmt;
 

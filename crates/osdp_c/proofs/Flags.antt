@@ -16,4 +16,4 @@ short (Ok n) h = omega (arith, h n refl)
 short (Err e) h = tt
 
 pub frame_short : (r : Frame) (p out : List ℕ) → Short (write_frame r p out).0
-frame_short r p out = short (write_frame r p out).0 (λ n e. (reads_back r p out n e).2.1)
+frame_short r p out = short (write_frame r p out).0 (λ n e. (reads_back r p out n e).2)
