@@ -3,7 +3,7 @@ LIB := target/staticlib/libosdp.a
 READERS := target/staticlib/libbench_read.a
 TEXTS := target/staticlib/libtext.a
 # quick ones first
-CHECKS := proof-map lib-selftest inputs names lib example compare mutants bench-selftest bench
+CHECKS := proof-map rows lib-selftest inputs names lib example demo compare mutants bench-selftest bench
 
 .PHONY: help
 help:
@@ -12,7 +12,8 @@ help:
 	@echo "make test         the gate: proves every crate, tries the must-fail edits, runs the programs (.ci/run)"
 	@echo "make lib          proves osdp_c and writes $(LIB); the header is include/osdp.h; holds its stack, outside symbols and writable data to limits"
 	@echo "  lib-selftest      whether that last check can fail"
-	@echo "make example      builds and runs examples/c with gcc, and with clang if there is one"
+	@echo "make example      builds and runs the batch of examples/c with gcc, and with clang if there is one"
+	@echo "make demo         builds and runs the round of examples/c, a controller and its readers over a pseudo-terminal, and holds README.md to its sheet"
 	@echo "make compare      against the original Rust: compare-vectors, then compare-calls"
 	@echo "  compare-vectors   the Rust's answers to generated cases, and a model's to frames, replayed by the program vectors"
 	@echo "  compare-calls     the four C calls, in one process with the Rust"
@@ -22,6 +23,7 @@ help:
 	@echo "make performance  as make bench, and writes docs/PERFORMANCE.md and docs/performance.svg"
 	@echo "make proof-map    whether docs/PROOF-MAP.md is right and whole, and a run reaches every public call; and whether this check can fail"
 	@echo "make names        whether the names of all codes are the Rust's: definitions, code, and what inspect shows; and whether this check can fail"
+	@echo "make rows         whether inspect, header and README.md say of the refusal table what tools/rows.txt says; and whether this check can fail"
 	@echo "make check-all    all of these in turn, up to the first that fails: $(CHECKS)"
 	@echo "make clean        removes what is in build/"
 	@echo
@@ -41,8 +43,8 @@ $(wordlist 2,$(words $(GOALS)),$(GOALS)): $(firstword $(GOALS)) ; @:
 
 else
 
-.PHONY: arguments oracle run inputs lib lib-selftest example test compare compare-vectors compare-calls mutants
-.PHONY: bench bench-selftest performance proof-map names check-all clean
+.PHONY: arguments oracle run inputs lib lib-selftest example demo test compare compare-vectors compare-calls mutants
+.PHONY: bench bench-selftest performance proof-map names rows check-all clean
 .NOTPARALLEL:
 
 # RUST and the others come from the command line of make, or from the environment; make hands them on in the environment.
@@ -86,6 +88,9 @@ $(TEXTS): tools/bench/printable.sh $(call SOURCES,crates/payload_util crates/tex
 example: $(LIB)
 	$(MAKE) --no-print-directory -C examples/c
 
+demo: $(LIB)
+	$(MAKE) --no-print-directory -C examples/c demo
+
 test:
 	.ci/run
 
@@ -119,6 +124,10 @@ names: oracle
 	tools/program.sh inspect
 	tools/names.py --selftest "$$RUST"
 	tools/names.py "$$RUST"
+
+rows:
+	tools/rows.py --selftest
+	tools/rows.py
 
 check-all: arguments
 	@tools/check_all.sh $(CHECKS)

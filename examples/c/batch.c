@@ -1,6 +1,6 @@
 /*
- * Passes a batch of payloads to the four calls of osdp.h: each payload is checked and normalised, and the result is printed and compared with
- * what is expected. Exits with 1 if something differs.
+ * Passes a batch of payloads and of frames to the calls of osdp.h: each payload is checked and normalised, each frame checked, taken apart and
+ * written again, and the result is printed and compared with what is expected. Exits with 1 if something differs.
  */
 #include <stdio.h>
 #include <string.h>
@@ -93,29 +93,35 @@ static const struct trial trials[] = {
     { .what = "no reply", .is_reply = 1, .code = 0x42, .checked = -OSDP_UNKNOWN_REPLY, .normalised = -OSDP_UNKNOWN_REPLY },
 };
 
-static const char *name_of(int32_t answer)
-{
-    switch (-answer) {
-    case OSDP_UNKNOWN_COMMAND: return "OSDP_UNKNOWN_COMMAND";
-    case OSDP_UNKNOWN_REPLY: return "OSDP_UNKNOWN_REPLY";
-    case OSDP_LENGTH: return "OSDP_LENGTH";
-    case OSDP_TOO_SHORT: return "OSDP_TOO_SHORT";
-    case OSDP_NOT_MULTIPLE: return "OSDP_NOT_MULTIPLE";
-    case OSDP_DECLARED_LENGTH: return "OSDP_DECLARED_LENGTH";
-    case OSDP_OUTPUT_CODE: return "OSDP_OUTPUT_CODE";
-    case OSDP_TEXT_BYTE: return "OSDP_TEXT_BYTE";
-    case OSDP_TEXT_COMMAND: return "OSDP_TEXT_COMMAND";
-    case OSDP_NAK_ERROR: return "OSDP_NAK_ERROR";
-    case OSDP_NOT_CARRIED: return "OSDP_NOT_CARRIED";
-    case OSDP_NO_ROOM: return "OSDP_NO_ROOM";
-    case OSDP_TOO_LONG: return "OSDP_TOO_LONG";
-    default: return "a number that osdp.h does not have";
-    }
-}
+struct frame_trial {
+    const char *what;
+    struct bytes frame;
+    int32_t checked;     /* what check has to return; if 0, what follows is in the frame */
+    uint8_t address, reply, sequence, crc, code;
+    size_t payload_len;  /* the payload is the frame's bytes from the seventh on */
+};
+
+/* Published frames, one with a payload, and the rows that a received frame can be refused by (R102 of docs/REQUIREMENTS.md). */
+static const struct frame_trial frame_trials[] = {
+    { .what = "POLL, CRC", .frame = BYTES(0x53, 0, 8, 0, 4, 0x60, 0xEB, 0xAA), .crc = 1, .code = 0x60 },
+    { .what = "ACK, sequence 1, CRC", .frame = BYTES(0x53, 0x80, 8, 0, 5, 0x40, 0x68, 0x9F), .reply = 1, .sequence = 1, .crc = 1, .code = 0x40 },
+    { .what = "POLL, sum", .frame = BYTES(0x53, 0, 7, 0, 0, 0x60, 0x46), .code = 0x60 },
+    { .what = "NAK, address 127, sum", .frame = BYTES(0x53, 0xFF, 8, 0, 3, 0x41, 3, 0x5F), .address = 127, .reply = 1, .sequence = 3,
+      .code = 0x41, .payload_len = 1 },
+    { .what = "six bytes", .frame = BYTES(0x53, 0, 7, 0, 0, 0x60), .checked = -OSDP_TOO_SHORT },
+    { .what = "seven bytes with a CRC", .frame = BYTES(0x53, 0, 7, 0, 4, 0x60, 0x42), .checked = -OSDP_TOO_SHORT },
+    { .what = "first byte 0x52", .frame = BYTES(0x52, 0, 7, 0, 0, 0x60, 0x47), .checked = -OSDP_FRAME },
+    { .what = "control bit 3", .frame = BYTES(0x53, 0, 7, 0, 8, 0x60, 0x3E), .checked = -OSDP_FRAME },
+    { .what = "longer than it says", .frame = BYTES(0x53, 0, 7, 0, 0, 0x60, 0x46, 0), .checked = -OSDP_DECLARED_LENGTH },
+    { .what = "wrong sum", .frame = BYTES(0x53, 0, 7, 0, 0, 0x60, 0x47), .checked = -OSDP_FRAME_CHECK },
+    { .what = "wrong CRC", .frame = BYTES(0x53, 0, 8, 0, 4, 0x60, 0xEB, 0xAB), .checked = -OSDP_FRAME_CHECK },
+    { .what = "no command", .frame = BYTES(0x53, 0, 7, 0, 0, 0x63, 0x43), .checked = -OSDP_UNKNOWN_COMMAND },
+    { .what = "no reply", .frame = BYTES(0x53, 0x80, 7, 0, 0, 0x42, 0xE4), .checked = -OSDP_UNKNOWN_REPLY },
+};
 
 /*
- * How a controller calls the library. A frame has been received, and its check and sequence have been tested; code is the byte after the frame's
- * header, payload is what follows it up to the check, and payload_len comes from the frame's length field.
+ * How a controller calls the library. A frame has been received, osdp_check_frame has passed it, and its address and sequence are those that were
+ * asked for; code, payload and payload_len are what osdp_frame_code, osdp_frame_payload and osdp_frame_payload_len give.
  *
  * A controller that only wants to know whether to take the payload calls osdp_check_reply and reads from the receive buffer. One that stores or
  * forwards it normalises: what is written has no reserved colour, biometric type or format left, and two payloads that mean the same record
@@ -124,7 +130,7 @@ static const char *name_of(int32_t answer)
  *     uint8_t out[OSDP_LONGEST];
  *     int32_t n = osdp_normalise_reply(code, payload, payload_len, out, sizeof out);
  *     if (n < 0)
- *         answer with NAK, and log -n: it is a constant of enum osdp_refusal;
+ *         answer with NAK, and log -n, a constant of enum osdp_refusal, and osdp_row_text(-n);
  *     else
  *         store(out, (size_t)n);
  *
@@ -172,24 +178,84 @@ static int run(const struct trial *t)
     good = checked == t->checked && normalised == t->normalised && written_as(out, sizeof out, t->form.len > 0 ? t->form.at : payload, normalised);
     printf("%-7s %02X  %5lu bytes  %-32s ", t->is_reply ? "reply" : "command", t->code, (unsigned long)len, t->what);
     if (normalised < 0)
-        printf("%s%s", checked == 0 ? "accepted, not written: " : "refused: ", name_of(normalised));
+        printf("%s, row %d: %s", checked == 0 ? "accepted, not written" : "refused", (int)-normalised, osdp_row_text(-normalised));
     else
         printf("accepted, %ld bytes written%s", (long)normalised, memcmp(out, payload, (size_t)normalised) == 0 ? "" : ", changed");
     puts(good ? "" : "  <-- NOT AS EXPECTED");
     return good;
 }
 
+/* Whether the parts of a frame are those of the trial. */
+static int has_parts(const struct frame_trial *t)
+{
+    const uint8_t *f = t->frame.at;
+    return osdp_frame_address(f) == t->address && osdp_frame_reply(f) == t->reply && osdp_frame_sequence(f) == t->sequence &&
+           osdp_frame_crc(f) == t->crc && osdp_frame_code(f) == t->code && osdp_frame_payload(f) == f + 6 &&
+           osdp_frame_payload_len(f) == t->payload_len;
+}
+
+/* Whether the parts of a frame are written as that frame, and not into a byte less. */
+static int is_written(const struct frame_trial *t)
+{
+    uint8_t out[OSDP_LONGEST_FRAME];
+    size_t len = t->frame.len;
+    int32_t refused, n;
+
+    memset(out, UNTOUCHED, sizeof out);
+    refused = osdp_write_frame(t->address, t->reply, t->sequence, t->crc, t->code, t->frame.at + 6, t->payload_len, out, len - 1);
+    if (refused != -OSDP_NO_ROOM || !written_as(out, sizeof out, t->frame.at, refused))
+        return 0;
+    n = osdp_write_frame(t->address, t->reply, t->sequence, t->crc, t->code, t->frame.at + 6, t->payload_len, out, sizeof out);
+    return n == (int32_t)len && written_as(out, sizeof out, t->frame.at, n);
+}
+
+/* Returns whether the trial went as expected. */
+static int run_frame(const struct frame_trial *t)
+{
+    int32_t checked = osdp_check_frame(t->frame.at, t->frame.len);
+    int good = checked == t->checked && (checked != 0 || (has_parts(t) && is_written(t)));
+
+    printf("frame       %5lu bytes  %-32s ", (unsigned long)t->frame.len, t->what);
+    if (checked < 0)
+        printf("refused, row %d: %s", (int)-checked, osdp_row_text(-checked));
+    else
+        printf("accepted, code %02X, %lu bytes of payload", osdp_frame_code(t->frame.at), (unsigned long)osdp_frame_payload_len(t->frame.at));
+    puts(good ? "" : "  <-- NOT AS EXPECTED");
+    return good;
+}
+
+/* What no frame trial has: a frame that is too long, and what osdp_write_frame refuses, where each call has the faults of those after it, too. */
+static int refuses(void)
+{
+    static const uint8_t bytes[OSDP_LONGEST_FRAME + 1] = { 0x53 };
+    uint8_t out[1];
+    return osdp_check_frame(bytes, sizeof bytes) == -OSDP_HOUSE_LIMIT &&
+           osdp_write_frame(128, 0, 0, 0, 0x63, bytes, sizeof bytes, out, 0) == -OSDP_FRAME &&
+           osdp_write_frame(0, 1, 4, 0, 0x42, bytes, sizeof bytes, out, 0) == -OSDP_FRAME &&
+           osdp_write_frame(0, 0, 0, 0, 0x63, bytes, sizeof bytes, out, 0) == -OSDP_UNKNOWN_COMMAND &&
+           osdp_write_frame(0, 1, 0, 0, 0x42, bytes, sizeof bytes, out, 0) == -OSDP_UNKNOWN_REPLY &&
+           osdp_write_frame(0, 0, 0, 1, 0x80, bytes, OSDP_LONGEST_FRAME - 7, out, 0) == -OSDP_HOUSE_LIMIT &&
+           osdp_write_frame(0, 0, 0, 0, 0x80, bytes, OSDP_LONGEST_FRAME - 7, out, 0) == -OSDP_NO_ROOM;
+}
+
 int main(void)
 {
-    size_t i, n = sizeof trials / sizeof trials[0], good = 0;
+    size_t i, n = sizeof trials / sizeof trials[0], frames = sizeof frame_trials / sizeof frame_trials[0], good = 0;
 
     for (i = 0; i < n; i++)
         good += (size_t)run(&trials[i]);
+    for (i = 0; i < frames; i++)
+        good += (size_t)run_frame(&frame_trials[i]);
 
     /* A pointer may be NULL if its length is 0. */
-    if (osdp_check_reply(0x41, NULL, 0) != -OSDP_TOO_SHORT || osdp_normalise_reply(0x41, NULL, 0, NULL, 0) != -OSDP_TOO_SHORT)
+    if (osdp_check_reply(0x41, NULL, 0) != -OSDP_TOO_SHORT || osdp_normalise_reply(0x41, NULL, 0, NULL, 0) != -OSDP_TOO_SHORT ||
+        osdp_check_frame(NULL, 0) != -OSDP_TOO_SHORT || osdp_write_frame(0, 0, 0, 0, 0x60, NULL, 0, NULL, 0) != -OSDP_NO_ROOM)
         good = 0;
+    if (!refuses()) {
+        puts("a frame that is too long, or not written  <-- NOT AS EXPECTED");
+        good = 0;
+    }
 
-    printf("%lu of %lu as expected\n", (unsigned long)good, (unsigned long)n);
-    return good == n ? 0 : 1;
+    printf("%lu of %lu as expected\n", (unsigned long)good, (unsigned long)(n + frames));
+    return good == n + frames ? 0 : 1;
 }

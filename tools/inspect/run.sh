@@ -7,11 +7,4 @@ sample=$root/crates/inspect
 mkdir -p "$root/build"
 "$root/crates/inspect/out/inspect" "$sample/stdin" | tee "$root/build/inspected"
 diff "$sample/stdout" "$root/build/inspected"
-python3 - "$root/README.md" "$sample/stdout" <<'P'
-import re, sys
-readme, stdout = (open(f, encoding="utf-8").read() for f in sys.argv[1:])
-shown = re.findall(r"(?m)^    line \d+[:,].*\n(?:^      .*\n)*", readme)
-shown = ["".join(line[4:] + "\n" for line in block.splitlines()) for block in shown]
-if not shown or any(block not in stdout for block in shown):
-    sys.exit("README.md shows what inspect does not say")
-P
+"$root/tools/shown.py" "$sample/stdout" 'line \d+[:,]'

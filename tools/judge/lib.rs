@@ -5,6 +5,7 @@ pub mod kinds;
 pub mod payloads;
 pub mod read;
 pub mod refusal;
+pub mod scan;
 
 /// The lines of a table, with their numbers, without comments and empty lines.
 fn lines(table: &'static str) -> impl Iterator<Item = (usize, &'static str)> {

@@ -5,6 +5,7 @@ use judge::frame::{self, Frame};
 use judge::kinds::{kind, Kind, Side};
 use judge::read::{read, read_of_kind, Written};
 use judge::refusal::{refusal, Refusal};
+use judge::scan::{steps, Scanned};
 use osdp::command::{self as cmd, CommandCode};
 use osdp::error::Error;
 use osdp::guards;
@@ -35,6 +36,8 @@ pub enum Case {
     FrameWrite { frame: Frame, payload: Vec<u8> },
     /// Both checks of some bytes. The CRC starts from the number, the sum from its low byte.
     Checks(u16, Vec<u8>),
+    /// A line's stream to be gone through, and whether it has ended.
+    Stream { ended: bool, bytes: Vec<u8> },
 }
 
 pub const TABLES: [&str; 8] =
@@ -59,6 +62,8 @@ pub enum Answer {
     Read { kind: &'static Kind, parts: records::Parts, wrote: Written, strict: Option<Refusal>, first: Option<Refusal> },
     /// A frame that is accepted: what it says, and its payload.
     Framed(Frame, Vec<u8>),
+    /// Every step through a stream.
+    Steps(Vec<Scanned>),
 }
 
 fn gave(r: Result<Vec<u8>, Error>) -> Answer {
@@ -198,5 +203,6 @@ pub fn answer(case: &Case) -> Answer {
         Case::Frame(bytes) => read_frame(bytes),
         Case::FrameWrite { frame, payload } => write_frame(frame, payload),
         Case::Checks(start, bytes) => checks(*start, bytes),
+        Case::Stream { ended, bytes } => Answer::Steps(steps(bytes, *ended)),
     }
 }

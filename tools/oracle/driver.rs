@@ -3,18 +3,21 @@
 //!   oracle pack     the cases with their answers, in the vector format
 //!   oracle examples    lines `CASE => WORDS`: whether each answer begins with these words, and how many do
 //!   oracle frames COUNT SEED    so many frames by chance with their answers, in the vector format; standard input is not read
+//!   oracle streams COUNT SEED   the same of streams
 //! README.md has the forms of cases and answers.
 mod answer;
 mod frames;
 mod model;
 mod pack;
 mod records;
+mod streams;
 
 use answer::{answer, names, Answer, Case, CHECKS, GUARDS, TABLES};
 use judge::frame::Frame;
 use judge::kinds::{Side, KINDS};
 use judge::read::Written;
 use judge::refusal::Refusal;
+use judge::scan::Scanned;
 use std::fmt::Write as _;
 use std::io::{BufRead, Write};
 
@@ -88,6 +91,7 @@ fn parse(line: &str) -> Option<Case> {
             Some(Case::FrameWrite { frame: frame_of(code, address, side, sequence, check)?, payload: bytes(data)? })
         }
         ["checks", start, data] => Some(Case::Checks(start.parse().ok()?, bytes(data)?)),
+        ["stream", ended @ ("0" | "1"), data] => Some(Case::Stream { ended: ended == "1", bytes: bytes(data)? }),
         [what, code, data] => payload(false, what, code, data),
         _ => None,
     }
@@ -112,6 +116,20 @@ fn differs(w: &Written) -> String {
     w.difference.as_ref().map_or("".into(), |name| format!(" differs: {name}"))
 }
 
+fn fields(f: &Frame) -> String {
+    let (side, check) = names(f.reply, f.crc);
+    format!("{:02X} {side} {} {check} {:02X}", f.address, f.sequence, f.code)
+}
+
+fn step(s: &Scanned) -> String {
+    match s {
+        Scanned::Read(f, n) => format!("read {n} {} ", fields(f)),
+        Scanned::Damaged(e, n) => format!("damaged {n} {} ", refused(e)),
+        Scanned::Other(n) => format!("other {n} "),
+        Scanned::More(n) => format!("more {n} "),
+    }
+}
+
 fn text(a: &Answer) -> String {
     match a {
         Answer::Refused(e) => refused(e),
@@ -123,10 +141,8 @@ fn text(a: &Answer) -> String {
             let other = if first == strict { String::new() } else { format!(" first {}", said(first)) };
             format!("read {} {} wrote {} strict {}{other}{}", hex(&parts.fixed), hex(&parts.tail), hex(&wrote.bytes), said(strict), differs(wrote))
         }
-        Answer::Framed(f, payload) => {
-            let (side, check) = names(f.reply, f.crc);
-            format!("read {:02X} {side} {} {check} {:02X} {}", f.address, f.sequence, f.code, hex(payload))
-        }
+        Answer::Framed(f, payload) => format!("read {} {}", fields(f), hex(payload)),
+        Answer::Steps(steps) => steps.iter().map(step).collect::<String>() + "end",
     }
 }
 
@@ -209,11 +225,10 @@ fn packed(out: &mut impl Write, cases: impl Iterator<Item = (Case, Answer)>) -> 
     tally
 }
 
-/// Whether every refusal of a frame occurred, and each side was read and written with each check.
-fn by_chance(out: &mut impl Write, count: &str, seed_of: &str) -> bool {
+/// Packs so many cases by chance.
+fn by_chance<I: Iterator<Item = Case>>(out: &mut impl Write, cases: fn(u64) -> I, count: &str, seed_of: &str) -> pack::Tally {
     let (Some(count), Some(seed)) = (number(count), seed(seed_of)) else { stop("COUNT and SEED are numbers") };
-    let cases = (1..=count).zip(frames::cases(seed));
-    packed(out, cases.map(|(number, case)| with_answer(format_args!("case {number}"), case))).report_of_frames()
+    packed(out, (1..=count).zip(cases(seed)).map(|(number, case)| with_answer(format_args!("case {number}"), case)))
 }
 
 fn main() {
@@ -227,11 +242,14 @@ fn main() {
             answers(&mut out);
             true
         }
-        // whether every row and every difference occurred, every kind was read and written, and frames were
+        // whether every row and every difference occurred, every kind was read and written, and frames and streams were as below
         ["pack"] => packed(&mut out, lines().map(|(number, line)| answered(number, &line))).report(),
         ["examples"] => examples(&mut out),
-        ["frames", count, seed] => by_chance(&mut out, count, seed),
-        _ => stop("usage: oracle [pack | examples | frames COUNT SEED]"),
+        // whether every refusal of a frame occurred, and each side was read and written with each check
+        ["frames", count, seed] => by_chance(&mut out, frames::cases, count, seed).report_of_frames(),
+        // whether every step of a stream occurred
+        ["streams", count, seed] => by_chance(&mut out, streams::cases, count, seed).report_of_streams(),
+        _ => stop("usage: oracle [pack | examples | frames COUNT SEED | streams COUNT SEED]"),
     };
     out.flush().unwrap_or_else(|e| stop(&e.to_string()));
     std::process::exit(if is_good { 0 } else { 1 })

@@ -73,10 +73,14 @@ def read(f, words=None):
     return f"frame {spell(f)}", words
 
 
-def good(address, control, code, payload=b""):
+def said(address, control, code):
+    """what a good frame says beside its payload"""
     side = REPLY if address & REPLY.top else COMMAND
-    words = f"read {address % 128:02X} {side.name} {control & 3} {'crc' if control & CRC else 'sum'} {code:02X} {spell(payload)}"
-    return read(frame(address, control, code, payload), words)
+    return f"{address % 128:02X} {side.name} {control & 3} {'crc' if control & CRC else 'sum'} {code:02X}"
+
+
+def good(address, control, code, payload=b""):
+    return read(frame(address, control, code, payload), f"read {said(address, control, code)} {spell(payload)}")
 
 
 def good_ones():

@@ -12,6 +12,7 @@ sys.dont_write_bytecode = True
 sys.path.insert(0, str(Path(__file__).resolve().parent.parent))
 from frames import frames
 from kinds import KINDS, is_tail, span, width
+from streams import streams
 
 LIMIT = max(k.most for k in KINDS)  # the longest payload that the calls by code take
 TOP = 2**64 - 1
@@ -121,9 +122,9 @@ def case(kind, payload):
 
 
 def examples(of_frames):
-    """those that are about frames, or the others"""
+    """those that are about frames and streams of them, or the others"""
     for line in (Path(__file__).parent / "examples.txt").read_text(encoding="utf-8").splitlines():
-        if line and not line.startswith("#") and line.startswith(("frame", "checks")) == of_frames:
+        if line and not line.startswith("#") and line.startswith(("frame", "checks", "stream")) == of_frames:
             yield line.split(" => ")[0]
 
 
@@ -483,6 +484,7 @@ def cases(scale):
     yield from texts(scale)
     yield from generations(scale)
     yield from declared(scale)
+    yield from (case for case, _ in streams())
 
 
 for line in dict.fromkeys(cases(int(sys.argv[1]) if len(sys.argv) > 1 else 1)):

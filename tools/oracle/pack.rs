@@ -1,16 +1,23 @@
 //! Cases with their answers in the vector format, which crates/vectors/README.md describes.
 use crate::answer::{names, Answer, Case};
-use judge::frame::Frame;
+use judge::frame::{Frame, HEAD, MOST};
 use judge::kinds::{Field, Kind, KINDS};
 use judge::refusal::{Refusal, DECLARED_LENGTH};
+use judge::scan::Scanned;
 use std::borrow::Cow;
 use std::cmp::Ordering::{self, Greater, Less};
 use std::collections::{BTreeMap, BTreeSet};
+use std::ops::RangeInclusive;
 
 pub const END: u8 = 255;
 /// Frames that are read, and frames that are written.
 const FRAME: u8 = 15;
 const FRAME_WRITE: u8 = 16;
+/// The steps of a stream, by what they are.
+const READ: u8 = 0;
+const DAMAGED: u8 = 1;
+const OTHER: u8 = 2;
+const MORE: u8 = 3;
 /// Which calls a payload is for.
 const ALL: usize = 0;
 const BY_CODE: usize = 1;
@@ -60,7 +67,8 @@ fn joined(kind: &Kind, fixed: &[u8], tail: &[u8]) -> Vec<u8> {
 
 /// What occurred: the number of cases, cases by class and row, and by class and code those that are accepted and those that the original refuses to
 /// write; of frames that are accepted the class, whether it is a reply, and whether it has a CRC; payloads with row 18 for the first generation alone,
-/// which are counted by the row that the second is given; and of row 6 class and code, what was asked for, and whether less or more came.
+/// which are counted by the row that the second is given; of row 6 class and code, what was asked for, and whether less or more came; and the steps
+/// of streams, by what they are, and by the row or by how many bytes have to be there.
 #[derive(Default)]
 pub struct Tally {
     cases: usize,
@@ -70,6 +78,7 @@ pub struct Tally {
     framed: BTreeSet<(u8, bool, bool)>,
     new_colours: usize,
     lengths: BTreeSet<(u8, u8, usize, Ordering)>,
+    steps: BTreeMap<(u8, usize), usize>,
 }
 
 fn code_of_table(which: usize, byte: u8) -> u8 {
@@ -88,6 +97,18 @@ fn code_of_frame(answer: &Answer) -> u8 {
 /// What a frame says, without its code.
 fn fields(frame: &Frame) -> [u8; 4] {
     [frame.address, frame.reply.into(), frame.sequence, frame.crc.into()]
+}
+
+/// What a step is counted by, and its bytes.
+fn step(scanned: &Scanned) -> ((u8, usize), Vec<u8>) {
+    let low_first = |n: usize| u32::try_from(n).expect("a number of four bytes").to_le_bytes();
+    let (what, by, n, said) = match *scanned {
+        Scanned::Read(frame, n) => (READ, 0, n, [&fields(&frame)[..], &[frame.code]].concat()),
+        Scanned::Damaged(e, n) => (DAMAGED, e.row.into(), n, [&[e.row, e.code][..], &low_first(e.first), &low_first(e.second)].concat()),
+        Scanned::Other(n) => (OTHER, 0, n, Vec::new()),
+        Scanned::More(n) => (MORE, n, n, Vec::new()),
+    };
+    ((what, by), [&[what][..], &low_first(n), &said].concat())
 }
 
 /// The place that row 18 names, if strict refuses the payload to the first generation alone.
@@ -129,6 +150,7 @@ fn asked<'a>(case: &'a Case, answer: &Answer, row: u8) -> (u8, u8, usize, Cow<'a
         Case::Frame(bytes) => (FRAME, code_of_frame(answer), 0, bytes.into()),
         Case::FrameWrite { frame, payload } => (FRAME_WRITE, frame.code, 0, [&fields(frame)[..], payload].concat().into()),
         Case::Checks(start, bytes) => (17, 0, usize::from(*start), bytes.into()),
+        Case::Stream { ended, bytes } => (18, 0, usize::from(*ended), bytes.into()),
     }
 }
 
@@ -140,6 +162,7 @@ pub fn pack(out: &mut Vec<u8>, tally: &mut Tally, case: &Case, answer: &Answer) 
         Answer::Wrote(w) => (None, (&w.bytes).into(), w.difference.is_some()),
         Answer::Read { wrote: w, strict, .. } => (*strict, (&w.bytes).into(), w.difference.is_some()),
         Answer::Framed(frame, payload) => (None, [&fields(frame)[..], &[frame.code], payload].concat().into(), false),
+        Answer::Steps(steps) => (None, tally.stepped(steps).into(), false),
     };
     let (class, code, argument, input) = asked(case, answer, refused.map_or(0, |e| e.row));
     let mut e = refused.unwrap_or(Refusal { row: 0, code, first: 0, second: 0 });
@@ -174,6 +197,16 @@ impl Tally {
         }
     }
 
+    /// Counts the steps of a stream, and gives their bytes.
+    fn stepped(&mut self, steps: &[Scanned]) -> Vec<u8> {
+        let mut bytes = Vec::new();
+        for (counted, said) in steps.iter().map(step) {
+            *self.steps.entry(counted).or_default() += 1;
+            bytes.extend(said);
+        }
+        bytes
+    }
+
     /// The end of a stream: how many cases come before it.
     pub fn end(&self, out: &mut Vec<u8>) {
         put(out, END, 0, self.cases, &[], Refusal { row: 0, code: 0, first: 0, second: 0 }, &[]);
@@ -191,6 +224,19 @@ impl Tally {
         lacking
     }
 
+    /// How many steps there were that are counted by a number of these.
+    fn times(&self, what: u8, by: RangeInclusive<usize>) -> usize {
+        self.steps.range((what, *by.start())..=(what, *by.end())).map(|(_, n)| n).sum()
+    }
+
+    /// How often each step of a stream occurred, if there were streams.
+    fn by_step(&self) -> String {
+        let [read, other, more] = [READ, OTHER, MORE].map(|what| self.times(what, 0..=MOST));
+        let rows: Vec<String> = self.steps.range((DAMAGED, 0)..(OTHER, 0)).map(|((_, row), n)| format!("{row}: {n}")).collect();
+        let steps = format!("; steps of streams: {read} read, {other} other, {more} more, damaged by row {}", rows.join(", "));
+        if self.steps.is_empty() { String::new() } else { steps }
+    }
+
     /// Says how many cases there were, and how often each row occurred, which it returns.
     fn by_row(&self) -> BTreeMap<u8, usize> {
         let mut rows = BTreeMap::new();
@@ -200,7 +246,7 @@ impl Tally {
         let said: Vec<String> = rows.iter().map(|(row, n)| format!("{row}: {n}")).collect();
         let new = self.new_colours;
         let first = if new > 0 { format!("; row 18 for the first generation: {new}") } else { String::new() };
-        eprintln!("{} cases; by row, 0 for none: {}{first}", self.cases, said.join(", "));
+        eprintln!("{} cases; by row, 0 for none: {}{first}{}", self.cases, said.join(", "), self.by_step());
         rows
     }
 
@@ -242,7 +288,21 @@ impl Tally {
         lacking
     }
 
-    /// Says what occurred, and returns whether each row and each difference occurred, each kind was read and written, and frames were.
+    /// The steps of a stream that never occurred.
+    fn steps_lacking(&self) -> Vec<String> {
+        let rows = [1, 2, 4, 6, 20, 21, 22].map(|row| (DAMAGED, row..=row, format!("row {row} in a stream")));
+        let others = [
+            (READ, 0..=0, "frame read in a stream"),
+            (OTHER, 0..=0, "other bytes in a stream"),
+            (MORE, HEAD + 1..=HEAD + 1, "head to be waited for"),
+            (MORE, HEAD + 2..=MOST, "frame to be waited for"),
+        ];
+        let all = rows.into_iter().chain(others.map(|(what, by, name)| (what, by, name.to_string())));
+        all.filter(|(what, by, _)| self.times(*what, by.clone()) == 0).map(|(.., name)| name).collect()
+    }
+
+    /// Says what occurred, and returns whether each row and each difference occurred, each kind was read and written, frames were, and each step of a
+    /// stream occurred.
     pub fn report(&self) -> bool {
         let rows = self.by_row();
         let mut lacking: Vec<String> =
@@ -254,6 +314,7 @@ impl Tally {
         lacking.extend((self.new_colours == 0).then(|| "row 18".to_string()));
         lacking.extend(self.lengths_lacking());
         lacking.extend(self.frames_lacking());
+        lacking.extend(self.steps_lacking());
         lacking.extend(self.differences());
         is_none(&lacking)
     }
@@ -262,6 +323,12 @@ impl Tally {
     pub fn report_of_frames(&self) -> bool {
         self.by_row();
         is_none(&self.frames_lacking())
+    }
+
+    /// The same of a stream that has only streams of lines.
+    pub fn report_of_streams(&self) -> bool {
+        self.by_row();
+        is_none(&self.steps_lacking())
     }
 }
 

@@ -10,7 +10,7 @@ use vectors_read::{payload, walker};
 use vectors_write::{place, writer};
 
 // The highest class of a case.
-pub const LAST: u8 = 17;
+pub const LAST: u8 = 18;
 
 // Tries a case with its input, the wanted output, and a buffer that is longer than both together. False if no row has the wanted number.
 pub fn run(e: Entry, out: &mut [u8]) -> bool {
@@ -61,6 +61,7 @@ fn once(class: u8, c: Case, out: &mut [u8]) -> bool {
         15 => vectors_frame::read(c, out),
         16 => vectors_frame::write(c, out),
         17 => vectors_frame::checks(c),
+        18 => vectors_frame::stream(c),
         _ => false,
     }
 }

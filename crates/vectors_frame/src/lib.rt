@@ -1,4 +1,4 @@
-// Classes 15, 16 and 17: frames that are read, frames that are written, and the two checks of bytes.
+// Classes 15 to 18: frames that are read, frames that are written, the two checks of bytes, and streams of a line.
 #![tactic(auto)]
 
 ghost use Rattle.std.specs.Prelude.{◌≡◌, true, ◌%◌, ℕ, [], ◌∷◌, ◌++◌};
@@ -9,8 +9,9 @@ ghost use Rattle.crc.specs.Sum.{sum_of, twos_complement};
 ghost use Rattle.frame.specs.Frame.{check_frame};
 ghost use Rattle.vectors_case.specs.Case.{Tried};
 
-use frame::Frame;
-use vectors_case::{Case, byte, u16_bytes};
+use frame::{Frame, Scanned};
+use payload_util::Refusal;
+use vectors_case::{Case, byte, u16_bytes, u32_at};
 
 // The bytes before the payload in a frame, and of the fields in an output and in an input.
 const HEAD: usize = 6;
@@ -18,6 +19,19 @@ const HEAD: usize = 6;
 const FIELDS: usize = 5;
 
 const GIVEN: usize = 4;
+
+// What a step of a stream is, in the output; how many bytes say this and its number, and how many a refusal has behind them.
+const READ: u8 = 0;
+
+const DAMAGED: u8 = 1;
+
+const OTHER: u8 = 2;
+
+const MORE: u8 = 3;
+
+const STEP: usize = 5;
+
+const REFUSAL: usize = 10;
 
 // The bytes from one index up to another; none if there are no such bytes.
 fn part(s: &[u8], from: usize, to: usize) -> &[u8] {
@@ -47,19 +61,22 @@ fn is_inside(c: Case) -> bool {
     by_sum.payload_in(f) == between(f, HEAD, 1) && by_crc.payload_in(f) == between(f, HEAD, 2)
 }
 
+// Whether bytes begin with what a record says.
+fn has_fields(r: Frame, want: &[u8]) -> bool {
+    let fields = [
+        r.address,
+        u8::from(r.reply),
+        r.sequence,
+        u8::from(r.crc),
+        r.code,
+    ];
+    fields.as_slice() == part(want, 0, FIELDS)
+}
+
 // Whether the reader gives the wanted fields, or the wanted refusal.
 fn is_read(c: Case) -> bool {
     match Frame::decode(c.input) {
-        Ok(r) => {
-            let fields = [
-                r.address,
-                u8::from(r.reply),
-                r.sequence,
-                u8::from(r.crc),
-                r.code,
-            ];
-            c.wanted.is_ok() && fields.as_slice() == part(c.want, 0, FIELDS)
-        }
+        Ok(r) => c.wanted.is_ok() && has_fields(r, c.want),
         Err(e) => c.want.is_empty() && c.refuses(e),
     }
 }
@@ -110,4 +127,48 @@ pub fn checks(c: Case) -> bool
     [bytes[0], bytes[1], sum, crc::twos_complement(sum)].as_slice() == c.want
         && crc::crc(crc::crc(start, one), other) == whole
         && crc::sum(crc::sum(first, one), other) == sum
+}
+
+// Whether bytes begin with a refusal: row, code, and two numbers of four bytes.
+fn has_refusal(e: Refusal, want: &[u8]) -> bool {
+    let first = u32_at(want, 2) as usize;
+    let second = u32_at(want, 6) as usize;
+    vectors_case::wanted(byte(want, 0), byte(want, 1), first, second) == Some(Err(e))
+}
+
+// How many bytes of the output a step has, if it is the one that these begin with.
+fn step_len(step: Scanned, want: &[u8]) -> Option<usize> {
+    let said = part(want, STEP, want.len());
+    let (what, n, is_said, len) = match step {
+        Scanned::Read(r, n) => (READ, n, has_fields(r, said), STEP + FIELDS),
+        Scanned::Damaged(e, n) => (DAMAGED, n, has_refusal(e, said), STEP + REFUSAL),
+        Scanned::Other(n) => (OTHER, n, true, STEP),
+        Scanned::More(n) => (MORE, n, true, STEP),
+    };
+    let is_wanted = byte(want, 0) == what && u32_at(want, 1) as usize == n && is_said;
+    (is_wanted && len <= want.len()).then_some(len)
+}
+
+// Class 18. The argument says whether the stream has ended; the output has every step through it, up to its end or to where more bytes are wanted.
+pub fn stream(c: Case) -> bool {
+    let ended = c.argument != 0;
+    let mut rest = c.input;
+    let mut want = c.want;
+    // a step is of at least one byte, or the last
+    for _ in 0..=c.input.len() {
+        let step = frame::scan(rest, ended);
+        let Some(len) = step_len(step, want) else {
+            return false;
+        };
+        want = part(want, len, want.len());
+        let n = match step {
+            Scanned::Read(_, n) | Scanned::Damaged(_, n) | Scanned::Other(n) => n,
+            Scanned::More(_) => rest.len(),
+        };
+        rest = part(rest, n, rest.len());
+        if rest.is_empty() {
+            return want.is_empty();
+        }
+    }
+    false
 }
