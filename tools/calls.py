@@ -142,7 +142,10 @@ class Calls:
             first = crate
         elif not rest or f"{place}::{path}" in self.functions:
             first = f"{place}::{first}"
-        return f"{first}::{rest}" if rest else first
+        path = f"{first}::{rest}" if rest else first
+        # a crate hands on a name of one of its modules
+        handed = f"{first}::{self.uses.get(first, {}).get(rest, '').removeprefix('crate::')}"
+        return handed if handed in self.functions else path
 
     def add_by_parameter(self, function, trait, name):
         """A call of a trait's function by a type parameter: of the trait, and from each caller of the types that it has there."""

@@ -2,9 +2,10 @@
 """Runs inspect on inputs of every sort: inputs.py PROGRAM
 
 Bad lines and bad files; every code byte of both sides, with the name that its code table has (crates/codes/specs); payloads with the words
-that they have to give; lengths and counts that do not fit; every byte as a digit of a keypad; payloads of the greatest lengths; and, also for
-its speed, the lines of the sample many times over. Of each run all that inspect says, on both outputs, and its exit status are compared. inspect
-says on standard error what is wrong with a file, and ends with status 0 whatever it was given. Exits with 1 if something differs.
+that they have to give; lengths and counts that do not fit; every byte as a digit of a keypad; payloads of the greatest lengths; frames and streams,
+good and bad ones (traces.py); and, also for its speed, the lines of the sample many times over, and random bytes as a stream. Of each run all that
+inspect says, on both outputs, and its exit status are compared. inspect says on standard error what is wrong with a file, and ends with status 0
+whatever it was given. Exits with 1 if something differs.
 """
 import os
 import re
@@ -18,6 +19,7 @@ sys.dont_write_bytecode = True
 top = Path(__file__).resolve().parent.parent.parent
 sys.path.insert(0, str(top / "tools"))
 import names
+import traces
 from kinds import KINDS, width
 
 MOST_SECONDS = 60
@@ -40,14 +42,16 @@ def differing(got, wanted):
 
 class Trials:
     def __init__(self, program):
-        self.program, self.runs, self.failures = program, 0, 0
+        self.program, self.runs, self.failures, self.seconds = program, 0, 0, 0.0
 
     def inspect(self, text=b"", args=()):
         """standard output, standard error and exit status, which is below 0 for a signal"""
+        start = time.monotonic()
         try:
             ran = subprocess.run([self.program, *args], input=text, capture_output=True, timeout=MOST_SECONDS)
         except subprocess.TimeoutExpired:
             return "", "", f"none after {MOST_SECONDS} s"
+        self.seconds = time.monotonic() - start
         return ran.stdout.decode("ascii", "backslashreplace"), ran.stderr.decode("ascii", "backslashreplace"), ran.returncode
 
     def expect(self, what, out, err="", status=ENDED, text=b"", args=()):
@@ -63,7 +67,7 @@ class Trials:
 
 def bad_lines():
     """A bad line, and what inspect has to say of it."""
-    word = "column 1: the line has to begin with command or reply, not with"
+    word = "column 1: the line has to begin with command, reply or frame, not with"
     code = "the code byte has to have two hex digits"
     half = "half a byte, its second hex digit is missing"
     return [
@@ -92,13 +96,16 @@ def bad_lines():
         (b"command 69 0x00", "column 13: not a hex digit"),
         (b"command 69 00,00", "column 14: not a hex digit"),
         (b"command 69 \xff", "column 12: not a hex digit"),
-        (b"command 80 " + b"00" * 65548, "column 131107: payload of more than 65,547 bytes"),
+        (b"command 80 " + b"00" * 65548, "column 131107: more than 65,547 bytes"),
+        (b"frame 53 0", f"column 11: {half}"),
+        (b"frame " + b"00" * 65548, "column 131102: more than 65,547 bytes"),
+        (b"frames 53", f"{word} frames"),
     ]
 
 
 def help_text():
     """what inspect prints, by its source"""
-    literal = re.search(r'"(usage: .*?)"', (top / "crates/inspect/src/main.rt").read_text(encoding="utf-8"), re.S)[1]
+    literal = re.search(r'"(usage: .*?)"', (top / "crates/inspect_run/src/lib.rt").read_text(encoding="utf-8"), re.S)[1]
     return re.sub(r"\\\n\s*", "", literal).replace("\\n", "\n")
 
 
@@ -106,7 +113,7 @@ def lines_and_files(t):
     for text, message in bad_lines():
         # a good line after a bad one is still shown
         t.expect(text[:40], f"line 1, {message}\nline 2{GOOD_SHOWN}{counts(read=1, bad=1)}", text=text + f"\n{GOOD}\n".encode())
-    empty = "no payload in the input\n"
+    empty = "no payload and no frame in the input\n"
     with tempfile.TemporaryDirectory() as folder:
         name = folder + "/lines"
         Path(name).write_bytes(GOOD.encode())
@@ -114,9 +121,16 @@ def lines_and_files(t):
         Path(name).write_bytes(b"")
         t.expect("an empty file", empty, args=[name])
         t.expect("a folder", empty, "inspect: cannot read: Is a directory\n", args=[folder])
-        t.expect("a missing file", "", f"inspect: cannot open {name}0: No such file or directory\n", args=[name + "0"])
+        for trace in ([], ["--trace"]):
+            t.expect("a missing file", "", f"inspect: cannot open {name}0: No such file or directory\n", args=[*trace, name + "0"])
+        nothing = "bytes 0: 0 in 0 frames, 0 mark bytes FF, 0 other bytes; damaged frames 0, bad lines 0\n"
+        t.expect("a folder as a stream", nothing, "inspect: cannot read: Is a directory\n", args=["--trace", folder])
+        Path(name).write_bytes(b"ff")
+        t.expect("a stream in a file", "offset 0: passed over: 1 mark bytes FF, 0 other bytes\n" + nothing.replace("bytes 0: ", "bytes 1: ").replace("0 mark", "1 mark"),
+                 args=["--trace", name])
     t.expect("a name that is too long", "", "inspect: bad file name: File name too long\n", args=["x" * 5000])
-    t.expect("two files", "", "inspect: one file at most; inspect --help says more\n", args=["a", "b"])
+    for args in (["a", "b"], ["--trace", "a", "b"], ["a", "--trace"], ["--help", "a"]):
+        t.expect(f"arguments {args}", "", "inspect: one file at most; inspect --help says more\n", args=args)
     t.expect("comments and blank lines", empty, text=b"# x\n\n \t\r\n   # y\n")
     t.expect("help", help_text(), args=["--help"])
     raw = "line 1: reply 50 RAW, length 8\n  reader 0, format_code 0, bit_count 26\n  bits: 00010010001101000101011010\n" + counts(read=1)
@@ -278,8 +292,11 @@ def main():
     declared(t)
     every_key(t)
     long_payloads(t)
+    took = traces.runs(t, code_names(), counts)
     lines, speed = many_lines(t)
-    print(f"inputs: {t.runs} runs of inspect, {codes} codes and {lines} short lines among them ({speed:,.0f} lines a second): {t.failures} differ")
+    streams = ", ".join(f"{n} MB in {seconds:.2f} s" for n, seconds in took.items())
+    print(f"inputs: {t.runs} runs of inspect, {codes} codes and {lines} short lines among them ({speed:,.0f} lines a second), and streams of random "
+          f"bytes ({streams}): {t.failures} differ")
     sys.exit(1 if t.failures else 0)
 
 

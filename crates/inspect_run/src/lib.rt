@@ -100,13 +100,15 @@ pub fn run<P: Env + Files + Input + Print + Eprint + AllocGlobal>(rt: &P) -> io:
     let mut space = [0u8; 8];
     let first = argument(rt, 1, &mut space);
     let (sort, at) = match first {
-        Ok(b"--help") => return help(rt),
         Ok(b"--trace") => (Sort::Stream, 2),
         _ => (Sort::Lines, 1),
     };
     let mut more = [0u8; 1];
     if !matches!(argument(rt, at + 1, &mut more), Err(FillError::NotPresent)) {
         return eprintln!(rt; "inspect: one file at most; inspect --help says more");
+    }
+    if matches!(first, Ok(b"--help")) {
+        return help(rt);
     }
     named(rt, sort, at)
 }
