@@ -16,7 +16,7 @@ help:
 	@echo "make demo         builds and runs the round of examples/c, a controller and its readers over a pseudo-terminal, and holds README.md to its sheet"
 	@echo "make compare      against the original Rust: compare-vectors, then compare-calls"
 	@echo "  compare-vectors   the Rust's answers to generated cases, and a model's to frames, replayed by the program vectors"
-	@echo "  compare-calls     the four C calls, in one process with the Rust"
+	@echo "  compare-calls     the six C calls, in one process with the Rust"
 	@echo "make mutants      whether compare-calls notices what is wrong: archives with one thing wrong each"
 	@echo "make bench        times and instructions against the original Rust, to build/bench"
 	@echo "  bench-selftest    whether wrong calls and missed targets are noticed"

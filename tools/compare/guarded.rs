@@ -1,7 +1,6 @@
 //! Memory between two pages that must not be touched. Touching one, or writing where only reading is allowed, ends the process, and prints which
-//! payload the thread was at.
+//! payload or frame the thread was at.
 use judge::chance::Chance;
-use judge::kinds::Side;
 use std::cell::Cell;
 use std::ffi::c_void;
 
@@ -70,7 +69,12 @@ impl Region {
 
     /// Zeroes that can only be read.
     pub fn zeroes(at_least: usize) -> Region {
-        Region::reserved(at_least).allow(at_least, PROT_READ)
+        Region::zeroes_behind(0, at_least)
+    }
+
+    /// The same, of which the first few can be written.
+    pub fn zeroes_behind(front: usize, at_least: usize) -> Region {
+        Region::reserved(at_least).allow(at_least, PROT_READ).allow(front, PROT_READ_WRITE)
     }
 
     /// Memory that can only be read; `put` writes it by way of a second mapping.
@@ -128,24 +132,23 @@ impl Drop for Region {
 }
 
 thread_local! {
-    /// The payload that this thread is at.
-    static NOW: Cell<(Side, u8, usize)> = const { Cell::new((Side::Command, 0, 0)) };
+    /// The payload or frame that this thread is at: a side or `frame` and what is done, the code byte, and the length.
+    static NOW: Cell<(&'static str, u8, usize)> = const { Cell::new(("", 0, 0)) };
 }
 
-pub fn now(side: Side, code: u8, len: usize) {
-    NOW.set((side, code, len));
+pub fn now(name: &'static str, code: u8, len: usize) {
+    NOW.set((name, code, len));
 }
 
 /// A handler of a signal may not allocate.
 extern "C" fn touched(_: i32) {
-    let (side, code, mut len) = NOW.get();
-    let mut text = *b"DIFFERS: memory was touched that must not be; reply   .., length           0\n";
-    if side == Side::Command {
-        text[46..53].copy_from_slice(b"command");
-    }
+    let (name, code, mut len) = NOW.get();
+    let mut text = *b"DIFFERS: memory was touched that must not be; ........... .., length           0\n";
+    text[46..57].fill(b' ');
+    text[46..46 + name.len()].copy_from_slice(name.as_bytes());
     let digit = |n: usize| b"0123456789ABCDEF"[n];
-    text[54] = digit(usize::from(code) / 16);
-    text[55] = digit(usize::from(code) % 16);
+    text[58] = digit(usize::from(code) / 16);
+    text[59] = digit(usize::from(code) % 16);
     let mut at = text.len() - 2;
     while len > 0 {
         text[at] = digit(len % 10);

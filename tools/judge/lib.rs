@@ -1,6 +1,7 @@
 //! What the oracle, the comparison and the bench share.
 pub mod chance;
 pub mod frame;
+pub mod frames;
 pub mod kinds;
 pub mod payloads;
 pub mod read;

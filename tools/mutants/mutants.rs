@@ -1,18 +1,18 @@
 //! Tries the comparison on wrong archives: mutants COMPARE
 //! COMPARE is the comparison, linked with the stand-in. It has to find no difference in the stand-in as it is, and to show of each mutant what
 //! wrong.rs says: differences, memory that is touched, a run without its end, or nothing for a reason. Exits with 1 if something else is shown,
-//! if a kind has no mutant but those from the table, or if there are fewer than LEAST.
+//! if a kind or a call on frames has no mutant but those from the table, or if there are fewer than LEAST.
 use judge::kinds::KINDS;
 use std::io::Read;
 use std::process::{Child, Command, Stdio};
 use std::sync::atomic::{AtomicUsize, Ordering};
 use std::sync::Mutex;
 use std::time::{Duration, Instant};
-use wrong::{all, Mutant, Shows};
+use wrong::{all, frames, Mutant, Place, Shows};
 
 /// A run ends at so many differences.
 const STOP: u64 = 1_000;
-/// A run of one code byte takes some 20 s at most. One that is to have no end is ended after this time,
+/// A run of one code byte, or of reading or writing frames, takes some 20 s at most. One that is to have no end is ended after this time,
 const NO_END_LIMIT: Duration = Duration::from_secs(60);
 /// and any other after this.
 const LIMIT: Duration = Duration::from_secs(1_200);
@@ -98,20 +98,23 @@ fn verdict(m: &Mutant, o: &Outcome) -> (String, bool) {
 }
 
 fn place(m: &Mutant) -> String {
-    let (side, code) = m.place;
-    let name = judge::kinds::kind(side, code).map_or("", |k| k.name);
-    format!("{:<7} {code:02X} {name}", side.name())
+    let name = KINDS.iter().find(|k| m.place == Place::Code(k.side, k.code)).map_or("", |k| k.name);
+    let [one, other] = m.place.words();
+    format!("{one:<7} {other} {name}")
 }
 
-/// Kinds without a mutant of their own but those from the table.
-fn lacking(mutants: &[Mutant]) -> impl Iterator<Item = &'static str> + '_ {
-    KINDS.iter().filter(|k| !mutants.iter().any(|m| m.place == (k.side, k.code) && m.row == 0 && !m.everywhere)).map(|k| k.name)
+/// Kinds, and calls on frames, without a mutant of their own but those from the table.
+fn lacking(mutants: &[Mutant]) -> Vec<&'static str> {
+    let kinds = KINDS.iter().map(|k| (Place::Code(k.side, k.code), k.name));
+    let all = kinds.chain([(frames::READ, "frame read"), (frames::WRITE, "frame write")]);
+    let has_one = |place: Place| mutants.iter().any(|m| m.place == place && m.row == 0 && !m.everywhere);
+    all.filter(|(place, _)| !has_one(*place)).map(|(_, name)| name).collect()
 }
 
 /// Tries one mutant and prints a line of it; the line again if it does not show what it has to.
 fn try_one(compare: &str, i: usize, m: &Mutant) -> Option<String> {
-    let code = format!("{:02X}", m.place.1);
-    let args = ["--only", m.place.0.name(), &code, "--stop", &STOP.to_string()];
+    let [one, other] = m.place.words();
+    let args = ["--only", &one, &other, "--stop", &STOP.to_string()];
     let limit = if m.shows == Shows::NoEnd { NO_END_LIMIT } else { LIMIT };
     let (said, good) = verdict(m, &run(compare, &args, Some(i), limit));
     let line = format!("{i:>3} {:<23} {}: {said}", place(m), m.what);
@@ -144,7 +147,7 @@ fn main() {
     let compare = std::env::args().nth(1).expect("usage: mutants COMPARE");
     let start = Instant::now();
     let mutants = all();
-    let lacking: Vec<&str> = lacking(&mutants).collect();
+    let lacking = lacking(&mutants);
     let Outcome::Passed(cases) = run(&compare, &[], None, LIMIT) else {
         println!("mutants: the stand-in differs as it is, or the run of it broke off");
         std::process::exit(1)

@@ -1,5 +1,5 @@
 #!/usr/bin/env bash
-# Tries the comparison of the four C calls on wrong archives: run.sh [SOURCES]
+# Tries the comparison of the six C calls on wrong archives: run.sh [SOURCES]
 # SOURCES is as for tools/oracle/build.sh, which builds the original. Everything goes to build/. README.md says what is tried.
 set -euo pipefail
 here=$(cd "$(dirname "$0")" && pwd -P)

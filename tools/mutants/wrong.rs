@@ -1,4 +1,6 @@
-//! The wrong archives. Each is the stand-in with one thing wrong, and says what.
+//! The wrong archives. Each is the stand-in with one thing wrong, and says what. Those of frames are in frames.rs.
+pub mod frames;
+
 use judge::kinds::{kind, Side, KINDS};
 use judge::read::{normalised, read_of_kind};
 use std::cell::UnsafeCell;
@@ -8,7 +10,9 @@ use std::sync::atomic::{AtomicU64, AtomicU8, Ordering::Relaxed};
 pub struct Call<'a> {
     pub side: Side,
     pub code: u8,
-    /// Where the payload is lent; an Ask that changes `p` leaves this as it is.
+    /// Of a frame that is to be written, the rest of what it is written of.
+    pub head: frames::Head,
+    /// Where the payload, or the frame that is to be checked, is lent; an Ask that changes `p` leaves this as it is.
     pub at: *const u8,
     pub p: &'a [u8],
     /// None: a check.
@@ -21,7 +25,11 @@ pub struct Call<'a> {
     pub row: u8,
 }
 
-impl Call<'_> {
+impl<'a> Call<'a> {
+    pub fn new(side: Side, code: u8, at: *const u8, p: &'a [u8], out: Option<*mut u8>, room: usize) -> Call<'a> {
+        Call { side, code, head: frames::Head::default(), at, p, out, room, answer: Err(0), returned: 0, row: 0 }
+    }
+
     fn n(&self) -> usize {
         self.p.len()
     }
@@ -155,9 +163,26 @@ pub enum Shows {
     Nothing(&'static str),
 }
 
+/// A code byte, or reading or writing frames.
+#[derive(Clone, Copy, PartialEq)]
+pub enum Place {
+    Code(Side, u8),
+    Frames(&'static str),
+}
+
+impl Place {
+    /// The words that name it to the comparison.
+    pub fn words(self) -> [String; 2] {
+        match self {
+            Place::Code(side, code) => [side.name().into(), format!("{code:02X}")],
+            Place::Frames(way) => ["frame".into(), way.into()],
+        }
+    }
+}
+
 pub struct Mutant {
-    /// The code byte that is wrong, or with which it is looked for if all are.
-    pub place: (Side, u8),
+    /// What is wrong, or the code byte with which it is looked for if all are.
+    pub place: Place,
     pub everywhere: bool,
     pub what: String,
     pub wrong: Wrong,
@@ -168,16 +193,16 @@ pub struct Mutant {
     pub by_itself: bool,
 }
 
-fn mutant(place: (Side, u8), what: impl Into<String>, wrong: Wrong) -> Mutant {
+fn mutant(place: Place, what: impl Into<String>, wrong: Wrong) -> Mutant {
     Mutant { place, everywhere: false, what: what.into(), wrong, row: 0, shows: Shows::Differences, by_itself: false }
 }
 
 /// A kind by its name, or `command` or `reply` with a code byte.
-fn place(name: &str) -> (Side, u8) {
-    let of_kind = KINDS.iter().find(|k| k.name == name).map(|k| (k.side, k.code));
+fn place(name: &str) -> Place {
+    let of_kind = KINDS.iter().find(|k| k.name == name).map(|k| Place::Code(k.side, k.code));
     let of_code = || {
         let (side, code) = name.split_once(' ')?;
-        Some((Side::named(side)?, u8::from_str_radix(code, 16).ok()?))
+        Some(Place::Code(Side::named(side)?, u8::from_str_radix(code, 16).ok()?))
     };
     of_kind.or_else(of_code).unwrap_or_else(|| panic!("{name} is no kind and no code byte"))
 }
@@ -203,7 +228,8 @@ fn colour(at: usize) -> bool {
 pub fn all() -> Vec<Mutant> {
     let by_content = [limits(), lengths(), values(), records(), order(), cut(), codes(), answers()];
     let by_memory = [behind(), on_refusal(), rooms(), nulls(), memory(), hidden()];
-    by_content.into_iter().chain(by_memory).flatten().chain(KINDS.iter().flat_map(|k| each_row(k.name, &k.rows))).collect()
+    let by_row = KINDS.iter().flat_map(|k| each_row(k.name, &k.rows));
+    by_content.into_iter().chain(by_memory).flatten().chain(by_row).chain(frames::all()).collect()
 }
 
 /// Each row of each kind is left out: 15 is a success that writes nothing, 28 is what the kind's own reader gives, and with another row the

@@ -6,7 +6,6 @@
 //!   oracle streams COUNT SEED   the same of streams
 //! README.md has the forms of cases and answers.
 mod answer;
-mod frames;
 mod model;
 mod pack;
 mod records;
@@ -14,12 +13,16 @@ mod streams;
 
 use answer::{answer, names, Answer, Case, CHECKS, GUARDS, TABLES};
 use judge::frame::Frame;
+use judge::frames::Drawn;
 use judge::kinds::{Side, KINDS};
 use judge::read::Written;
 use judge::refusal::Refusal;
 use judge::scan::Scanned;
 use std::fmt::Write as _;
 use std::io::{BufRead, Write};
+
+/// How many frames to be written follow the twelve to be read that are made of a good one: one in five.
+const WRITES: usize = 3;
 
 /// `-` is none; pieces are joined by `+`; a piece is hex digits, or HH*N for N bytes HH.
 fn bytes(s: &str) -> Option<Vec<u8>> {
@@ -225,6 +228,22 @@ fn packed(out: &mut impl Write, cases: impl Iterator<Item = (Case, Answer)>) -> 
     tally
 }
 
+/// A good frame, damaged ones and some that are to be written.
+fn batch(drawn: &mut Drawn) -> Vec<Case> {
+    let mut cases: Vec<Case> = drawn.frames().into_iter().map(Case::Frame).collect();
+    cases.extend((0..WRITES).map(|_| {
+        let (frame, payload) = drawn.record();
+        Case::FrameWrite { frame, payload }
+    }));
+    cases
+}
+
+/// Without end.
+fn frames(seed: u64) -> impl Iterator<Item = Case> {
+    let mut drawn = Drawn::new(seed);
+    std::iter::repeat_with(move || batch(&mut drawn)).flatten()
+}
+
 /// Packs so many cases by chance.
 fn by_chance<I: Iterator<Item = Case>>(out: &mut impl Write, cases: fn(u64) -> I, count: &str, seed_of: &str) -> pack::Tally {
     let (Some(count), Some(seed)) = (number(count), seed(seed_of)) else { stop("COUNT and SEED are numbers") };
@@ -246,7 +265,7 @@ fn main() {
         ["pack"] => packed(&mut out, lines().map(|(number, line)| answered(number, &line))).report(),
         ["examples"] => examples(&mut out),
         // whether every refusal of a frame occurred, and each side was read and written with each check
-        ["frames", count, seed] => by_chance(&mut out, frames::cases, count, seed).report_of_frames(),
+        ["frames", count, seed] => by_chance(&mut out, frames, count, seed).report_of_frames(),
         // whether every step of a stream occurred
         ["streams", count, seed] => by_chance(&mut out, streams::cases, count, seed).report_of_streams(),
         _ => stop("usage: oracle [pack | examples | frames COUNT SEED | streams COUNT SEED]"),

@@ -1,7 +1,8 @@
 //! Streams of lines by chance: good and damaged frames, marks and noise, joined, and cut at any place.
 use crate::answer::Case;
 use judge::chance::Chance;
-use judge::frame::{complement, crc, known, sum, width, write, Frame, CRC, CRC_START, FIRST, HEAD, MOST, REPLY, SEQUENCE};
+use judge::frame::{known, width, write, Frame, CRC, FIRST, HEAD, MOST, REPLY, SEQUENCE};
+use judge::frames::{checked, CONTROL, LENGTH};
 
 /// What a line has where nobody sends.
 const MARK: u8 = 0xFF;
@@ -9,24 +10,10 @@ const MARK: u8 = 0xFF;
 const LONGEST: usize = 8000;
 /// The most pieces of a stream.
 const PIECES: usize = 8;
-/// Where the length field and the control byte are, and the code.
-const LENGTH: std::ops::Range<usize> = 2..4;
-const CONTROL: usize = 4;
+/// Where the code is.
 const CODE: usize = 5;
 /// Lengths at which an answer can change.
 const LENGTHS: [u16; 8] = [0, 6, 7, 8, MOST as u16 - 1, MOST as u16, MOST as u16 + 1, 0xFFFF];
-
-/// With the right check, by the control byte that it has.
-fn checked(mut f: Vec<u8>) -> Vec<u8> {
-    let has_crc = f[CONTROL] & CRC != 0;
-    f.truncate(f.len() - width(has_crc));
-    if has_crc {
-        f.extend(crc(CRC_START, &f).to_le_bytes());
-    } else {
-        f.push(complement(sum(0, &f)));
-    }
-    f
-}
 
 fn with_length(mut f: Vec<u8>, n: u16) -> Vec<u8> {
     f[LENGTH].copy_from_slice(&n.to_le_bytes());

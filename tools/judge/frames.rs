@@ -1,17 +1,15 @@
 //! Frames by chance, good and damaged ones, and frames to be written.
-use crate::answer::Case;
-use judge::chance::Chance;
-use judge::frame::{complement, crc, known, sum, width, Frame, CRC, CRC_START, FIRST, HEAD, MOST, REPLY, SEQUENCE};
+use crate::chance::Chance;
+use crate::frame::{complement, crc, known, sum, width, Frame, CRC, CRC_START, FIRST, HEAD, MOST, REPLY, SEQUENCE};
 
 /// Where the length field and the control byte are.
-const LENGTH: std::ops::Range<usize> = 2..4;
-const CONTROL: usize = 4;
-/// How many cases are made of a good frame, and how many frames to be written follow it.
+pub const LENGTH: std::ops::Range<usize> = 2..4;
+pub const CONTROL: usize = 4;
+/// How many damaged frames are made of a good one, each in another way.
 const DAMAGES: usize = 10;
-const WRITES: usize = 3;
 
 /// With the length that it has, if the field is there.
-fn with_length(mut f: Vec<u8>) -> Vec<u8> {
+pub fn with_length(mut f: Vec<u8>) -> Vec<u8> {
     let n = (f.len() as u16).to_le_bytes();
     if let Some(field) = f.get_mut(LENGTH) {
         field.copy_from_slice(&n);
@@ -20,7 +18,7 @@ fn with_length(mut f: Vec<u8>) -> Vec<u8> {
 }
 
 /// With the right check, by the control byte that it has, if there are bytes for it after the head. A CRC that is asked for in 7 bytes takes two.
-fn checked(mut f: Vec<u8>) -> Vec<u8> {
+pub fn checked(mut f: Vec<u8>) -> Vec<u8> {
     if f.len() <= HEAD {
         return f;
     }
@@ -34,14 +32,22 @@ fn checked(mut f: Vec<u8>) -> Vec<u8> {
     f
 }
 
-struct Drawn {
+/// A frame with this head, where the length is put in, and with the right check. It may be longer than a frame can be.
+pub fn framed(address: u8, control: u8, code: u8, payload: &[u8]) -> Vec<u8> {
+    let mut f = vec![FIRST, address, 0, 0, control, code];
+    f.extend_from_slice(payload);
+    f.resize(f.len() + width(control & CRC != 0), 0);
+    checked(with_length(f))
+}
+
+pub struct Drawn {
     r: Chance,
     /// The codes of commands, and of replies.
     codes: [Vec<u8>; 2],
 }
 
 impl Drawn {
-    fn new(seed: u64) -> Drawn {
+    pub fn new(seed: u64) -> Drawn {
         let codes = [false, true].map(|reply| (0..=255).filter(|&b| known(reply, b).is_ok()).collect());
         Drawn { r: Chance::new(seed), codes }
     }
@@ -75,10 +81,8 @@ impl Drawn {
         let reply = self.is();
         let control = self.r.from_to(0, SEQUENCE | CRC);
         let address = self.r.from_to(0, REPLY - 1) | if reply { REPLY } else { 0 };
-        let mut f = vec![FIRST, address, 0, 0, control, self.code(reply)];
-        f.extend(self.payload());
-        f.resize(f.len() + width(control & CRC != 0), 0);
-        checked(with_length(f))
+        let code = self.code(reply);
+        framed(address, control, code, &self.payload())
     }
 
     /// Any place of so many bytes; in every other draw one of the head.
@@ -146,28 +150,22 @@ impl Drawn {
         }
     }
 
-    fn write(&mut self) -> Case {
+    /// A good frame, the same with each damage, and with two.
+    pub fn frames(&mut self) -> Vec<Vec<u8>> {
+        let f = self.good();
+        let mut frames = vec![f.clone()];
+        frames.extend((0..DAMAGES).map(|which| self.damaged(which, f.clone())));
+        let (one, other) = (self.r.below(DAMAGES), self.r.below(DAMAGES));
+        let once = self.damaged(one, f);
+        frames.push(if once.is_empty() { once } else { self.damaged(other, once) });
+        frames
+    }
+
+    /// What is to be written as a frame; it may have to be refused.
+    pub fn record(&mut self) -> (Frame, Vec<u8>) {
         let reply = self.is();
         let code = self.code(reply);
         let frame = Frame { address: self.r.mostly_up_to(REPLY - 1), reply, sequence: self.r.mostly_up_to(SEQUENCE), crc: self.is(), code };
-        Case::FrameWrite { frame, payload: self.payload() }
+        (frame, self.payload())
     }
-
-    /// A good frame, the same with each damage and with two, and frames to be written.
-    fn batch(&mut self) -> Vec<Case> {
-        let f = self.good();
-        let mut cases = vec![Case::Frame(f.clone())];
-        cases.extend((0..DAMAGES).map(|which| Case::Frame(self.damaged(which, f.clone()))));
-        let (one, other) = (self.r.below(DAMAGES), self.r.below(DAMAGES));
-        let once = self.damaged(one, f);
-        cases.push(Case::Frame(if once.is_empty() { once } else { self.damaged(other, once) }));
-        cases.extend((0..WRITES).map(|_| self.write()));
-        cases
-    }
-}
-
-/// Without end. One in five is to be written.
-pub fn cases(seed: u64) -> impl Iterator<Item = Case> {
-    let mut drawn = Drawn::new(seed);
-    std::iter::repeat_with(move || drawn.batch()).flatten()
 }
