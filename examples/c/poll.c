@@ -22,7 +22,7 @@
 #include "osdp.h"
 
 enum { POLL = 0x60, LED = 0x69, TEXT = 0x6B, ACK = 0x40, NAK = 0x41, RAW = 0x50, NO_ANSWER = 0, UNREADABLE = 1 };
-enum { POSTS = 4, TRIES = 3, ANSWER_MS = 100, COMMAND_MS = 4000 };  /* how long is waited for an answer, and for a command */
+enum { POSTS = 4, TRIES = 3, ANSWER_MS = 200, COMMAND_MS = 4000 };  /* how long is waited for an answer, and for a command */
 
 /* The posts, by address; none has address 0. */
 static const struct post {
@@ -50,15 +50,15 @@ static const struct turn {
     uint8_t post;
     enum fault fault;
     struct { size_t len; uint8_t at[8]; } raw;  /* the payload of the reader's RAW; it answers ACK if there is none */
-    const char *concluded;                      /* what the controller has to conclude, command by command */
+    const char *concluded;                      /* what the controller has to conclude, command by command, try by try */
 } turns[] = {
     { 1, NONE, NO_TAG, "POLL: ACK" },
     { 1, NONE, TAG_A, "POLL: RAW, LED: ACK, TEXT: ACK" },
-    { 2, DAMAGED, TAG_A, "POLL: RAW, LED: ACK, TEXT: ACK" },
-    { 3, LOST, TAG_A, "POLL: RAW, LED: ACK, TEXT: NAK, error 3" },
-    { 1, WRONG_SEQUENCE, TAG_A, "POLL: ACK" },
+    { 2, DAMAGED, TAG_A, "POLL: refused, row 21: wrong check of a frame; RAW, normalised, LED: ACK, TEXT: ACK" },
+    { 3, LOST, TAG_A, "POLL: silence; RAW, LED: ACK, TEXT: NAK, error 3" },
+    { 1, WRONG_SEQUENCE, TAG_A, "POLL: RAW not taken: post 1, sequence 3; ACK" },
     { 2, NONE, CUT, "POLL: RAW refused, row 6: declared length or count is not the payload's (asked for, got)" },
-    { 3, SILENT, NO_TAG, "POLL: silence" },
+    { 3, SILENT, NO_TAG, "POLL: silence; silence; silence" },
     { 3, NONE, TAG_B, "POLL: RAW, LED: ACK, TEXT: NAK, error 3" },
 };
 enum { TURNS = sizeof turns / sizeof turns[0] };
@@ -130,6 +130,13 @@ static void say(struct round *r, const char *format, ...)
     va_end(more);
 }
 
+/* Adds to what is concluded in this turn. */
+static void conclude(struct round *r, const char *before, const char *words)
+{
+    size_t at = strlen(r->concluded);
+    snprintf(r->concluded + at, sizeof r->concluded - at, "%s%s", before, words);
+}
+
 /* Begins a line of the log. The round's clock is simulated, a minute a turn from 22:00, so that every run has the same sheet. */
 static void log_command(const struct round *r, uint8_t code, const uint8_t *payload, size_t len)
 {
@@ -178,38 +185,33 @@ static uint8_t judge(struct round *r, size_t len, uint8_t sequence)
 static uint8_t ask(struct round *r, uint8_t code, const uint8_t *payload, size_t payload_len)
 {
     uint8_t command[OSDP_LONGEST_FRAME], crc = posts[r->post].crc, sequence = r->next[r->post], answer = NO_ANSWER;
-    int32_t n = osdp_write_frame(r->post, 0, sequence, crc, code, payload, payload_len, command, sizeof command);
-    size_t at = strlen(r->concluded);
-    int tries;
-
-    if (n < 0)
-        say(r, "not sent, row %d: %s", (int)-n, osdp_row_text(-n));
+    int32_t tries, n = osdp_write_frame(r->post, 0, sequence, crc, code, payload, payload_len, command, sizeof command);
+    conclude(r, r->concluded[0] == 0 ? "" : ", ", name_of(code));
+    conclude(r, n < 0 ? " not sent: " : "", n < 0 ? osdp_row_text(-n) : "");
     for (tries = 0; n > 0 && tries < TRIES && answer == NO_ANSWER; tries++) {
         drop_input(r->line);
         answer = judge(r, put(r->line, command, (size_t)n) ? receive(r->line, r->answer, ANSWER_MS) : 0, sequence);
         log_command(r, code, payload, payload_len);
         printf(", sequence %u, %s: %s\n", (unsigned)sequence, crc ? "CRC" : "sum", r->words);
+        conclude(r, tries == 0 ? ": " : "; ", r->words);
     }
     r->next[r->post] = answer == NO_ANSWER ? 0 : (uint8_t)(sequence % 3 + 1);
-    snprintf(r->concluded + at, sizeof r->concluded - at, "%s%s: %s", at == 0 ? "" : ", ", name_of(code), r->words);
     return answer;
 }
 
-/* Sends a command in normal form; so the log has what is sent, and before that what was configured where it is not the same. */
+/* Sends a command in normal form, which the log has, and says so where it is not what was configured. */
 static void send_normal(struct round *r, uint8_t code, const uint8_t *payload, size_t len)
 {
     uint8_t form[OSDP_LONGEST_FRAME];
     int32_t n = osdp_normalise_command(code, payload, len, form, sizeof form);
 
     if (n != (int32_t)len || memcmp(form, payload, len) != 0) {
-        log_command(r, code, payload, len);
-        if (n < 0) {
-            printf(" not sent, row %d: %s\n", (int)-n, osdp_row_text(-n));
-            return;
-        }
-        puts(" is not in normal form");
+        log_command(r, code, NULL, 0);
+        n < 0 ? printf(" refused, row %d: %s\n", (int)-n, osdp_row_text(-n)) : puts(" was not in normal form");
+        conclude(r, ", ", n < 0 ? "refused" : "normalised");
     }
-    ask(r, code, form, (size_t)n);
+    if (n >= 0)
+        ask(r, code, form, (size_t)n);
 }
 
 /* Writes a line of the sheet from the RAW in r->answer. osdp_check_reply has passed it: for each eight bits of its count it has a byte. */
@@ -368,8 +370,7 @@ static int open_line(int *near, int *far)
         return 0;
     t.c_iflag = t.c_oflag = t.c_lflag = 0;
     t.c_cflag = (t.c_cflag & ~(tcflag_t)(CSIZE | PARENB)) | CS8;
-    t.c_cc[VMIN] = 1;
-    t.c_cc[VTIME] = 0;
+    t.c_cc[VMIN] = 1, t.c_cc[VTIME] = 0;
     return tcsetattr(*far, TCSANOW, &t) == 0;
 }
 

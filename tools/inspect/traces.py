@@ -1,25 +1,17 @@
 """What inspect says of frames and of streams, by a plain model, for inputs.py: a line with a frame, and a stream with frames, damaged ones, and
 what is between them. Of the kinds that are carried only MFG is put into a frame here."""
-import binascii
 import random
-import struct
+import sys
 from pathlib import Path
 
-FIRST, MARK, HEAD, MOST, CRC = 0x53, 0xFF, 6, 1440, 4
+sys.path.insert(0, str(Path(__file__).resolve().parent.parent / "oracle"))
+from frames import CRC, FIRST, HEAD, HIGHER, MOST, check, frame, width
+
+MARK = 0xFF
 MFG = 0x80
 MEGABYTES = (10, 100)  # of random bytes: the seconds that they take are said
 ROWS = Path(__file__).resolve().parent.parent / "rows.txt"
 SENTENCES = {int(line.split()[0]): line.split(maxsplit=3)[3] for line in ROWS.read_text(encoding="utf-8").splitlines() if line[0] != "#"}
-
-
-def check(body):
-    return struct.pack("<H", binascii.crc_hqx(body, 0x1D0F)) if body[4] & CRC else bytes([-sum(body) % 256])
-
-
-def frame(address, control, code, payload=b"", length=None):
-    n = HEAD + len(payload) + (2 if control & CRC else 1) if length is None else length
-    body = bytes([FIRST, address]) + struct.pack("<H", n) + bytes([control, code]) + payload
-    return body + check(body)
 
 
 def sides(f):
@@ -34,12 +26,12 @@ def refusal(f, known):
         return (20 if f[0] != FIRST else 22), 0, 0
     if (asked := f[2] + 256 * f[3]) != len(f):
         return 6, asked, len(f)
-    if f[4] >= 2 * CRC:
+    if f[4] >= HIGHER:
         return 20, 0, 0
-    end = len(f) - (2 if f[4] & CRC else 1)
+    end = len(f) - width(f[4])
     if end < HEAD:
         return 4, HEAD + 2, len(f)
-    if f[end:] != check(f[:end]):
+    if f[end:] != check(f[4], f[:end]):
         return 21, 0, 0
     side, _, row = sides(f)
     return None if (side, f[5]) in known else (row, 0, 0)
@@ -52,7 +44,7 @@ def refused(row, first=0, second=0):
 def read(f, known):
     """what is said of a good frame after its title"""
     side, way, _ = sides(f)
-    payload = f[HEAD:-2] if f[4] & CRC else f[HEAD:-1]
+    payload = f[HEAD:-width(f[4])]
     words = f"  {way} address {f[1] % 128}, sequence {f[4] % 4}, {'CRC' if f[4] & CRC else 'sum'}\n"
     words += f"  {side} {f[5]:02X} {known[side, f[5]]}, length {len(payload)}\n"
     if (side, f[5]) != ("command", MFG):
@@ -157,12 +149,20 @@ def runs(t, known, counts):
 
 
 def wrong_lines(t, known):
-    """what is wrong is said after what came before it; the rest of such a line is passed over"""
+    """a line that is not hex ends the stream before it, and its rest is passed over"""
     poll = frame(0, CRC, 0x60)
-    *shown, last = stream(b"\x53\0\x12" + poll, known, bad=3).splitlines(True)
     half = "half a byte, its second hex digit is missing"
-    wanted = f"line 1, column 8: {half}\nline 2, column 3: not a hex digit\n{''.join(shown)}line 5, column 2: {half}\n{last}"
-    t.expect("lines that are not hex", wanted, text=b"53 00 0 08\n12:30 53\n# 53\n" + poll.hex().encode() + b"\n5", args=["--trace"])
+    shown = [f"offset 0: damaged frame\n{refused(4, 7, 2)}  passed over: 0 mark bytes FF, 2 other bytes\nline 1, column 8: {half}\n",
+             "offset 2: passed over: 0 mark bytes FF, 1 other bytes\nline 2, column 3: not a hex digit\n",
+             f"offset 3: frame, length 8\n{read(poll, known)}line 5, column 2: {half}\n",
+             "bytes 11: 8 in 1 frames, 0 mark bytes FF, 3 other bytes; damaged frames 1, bad lines 3\n"]
+    text = b"53 00 0 08\n12:30 53\n# 53\n" + poll.hex().encode() + b"\n5"
+    t.expect("lines that are not hex", "".join(shown), text=text, args=["--trace"])
+    # no frame goes on after one
+    shown = [f"offset 0: damaged frame\n{refused(4, 7, 4)}  passed over: 0 mark bytes FF, 4 other bytes\nline 1, column 13: not a hex digit\n",
+             "offset 4: passed over: 0 mark bytes FF, 4 other bytes\n",
+             "bytes 8: 0 in 0 frames, 0 mark bytes FF, 8 other bytes; damaged frames 1, bad lines 1\n"]
+    t.expect("a frame with a wrong line in it", "".join(shown), text=b"53 00 08 00 zz 11\n04 60 EB AA", args=["--trace"])
 
 
 def of_random_bytes(t, known):

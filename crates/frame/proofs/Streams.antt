@@ -6,11 +6,12 @@ use mathlib.Core.Bool.{Bool, true, false, cond, not}
 use mathlib.Core.List.{List, [], ◌∷◌, ◌++◌, append-nil}
 use Prim.Native.Nat.{ℕ, zero, suc, ◌+◌, ◌≤◌, ◌<◌}
 use native.Mathlib.Omega.{arith}
-use borrow.Author.Tests.{ltb-true, ltb-false, leb-true, leb-false, eqb-true, eqb-false, le-ltb, lt-ltb, le-leb, lt-leb, ne_eqb, eq-eqb, both_ways}
+use borrow.Author.Tests.{ltb-true, ltb-false, leb-true, eqb-true, eqb-false, le-ltb, lt-ltb, le-leb, ne_eqb, eq-eqb, both_ways}
 use lib.Dec.{ltb, leb, eqb}
 use lib.ListN.{length, take, drop, get_or-append, length-append, length-drop, take-append-drop}
-use Rattle.std.specs.Prelude.{Ok, Err, ◌&&◌}
-use Rattle.std.proofs.lemmas.List.{take_at, take-append-le, length-take, get_or-take, get_or-drop}
+use Rattle.std.specs.Prelude.{Ok, Err}
+use Rattle.std.proofs.lemmas.Bool.{and_right, and_parts, and_cases}
+use Rattle.std.proofs.lemmas.List.{take_at, take-append-le, drop-append-le, nil_from_length, length-take, get_or-take, get_or-drop}
 use Rattle.std.proofs.lemmas.List.Sums.{prefix_len-le-length, fails_before_first}
 use Rattle.payload_util.specs.Bytes.{byte_at, u16_at}
 use Rattle.payload_util.specs.Refusals.{Outcome, refusal}
@@ -22,7 +23,7 @@ use Rattle.frame.specs.declared.scanner.Scanned.{Scanned}
 use Rattle.frame.specs.declared.scanner.Scanned.TheVariants.{Read, Damaged, Other, More}
 use Rattle.frame.specs.Frame.{som, longest, check_frame, fields_of, read_frame}
 use Rattle.frame.specs.Scan.{before, needed, read_at, told, waits, scan}
-use Rattle.frame.specs.Promises.{BeginsFrame, NoFrame, FindsFrames, FoundIsRead, PassesNone, WaitsShortly, SameInParts}
+use Rattle.frame.specs.Promises.{BeginsFrame, NoFrame, FindsFrames, FoundIsRead, PassesNone, WaitsShortly, RefusedAsRead, SameInParts}
 use Rattle.frame.proofs.Laws.{Accepted, accepted, long}
 
 -- a frame that is read is accepted
@@ -41,14 +42,6 @@ needs s t h =
 
 needs_all : (s : List ℕ) → 7 ≤ length s → needed s ≡ u16_at s 2
 needs_all s h = rw (le-ltb (length s) 7 h) refl
-
-and_false : (a : Bool) {b : Bool} → b ≡ false → (a && b) ≡ false
-and_false true q = q
-and_false false q = refl
-
-and_true : (a : Bool) {b : Bool} → (a && b) ≡ true → (a ≡ true) × (b ≡ true)
-and_true true q = (refl, q)
-and_true false q = absurd (both_ways false refl q)
 
 -- ---- the answers
 
@@ -98,19 +91,15 @@ module _ (s : List ℕ) (ended : Bool) where
         | inr (inr (inr (l, b, w, q))) ↦ (l, b, w, sym q ∙ e)
       ]
 
-empty : (s : List ℕ) → length s ≡ 0 → s ≡ []
-empty [] h = refl
-empty (x ∷ s) h = absurd (omega arith)
-
 waited : (s : List ℕ) (ended : Bool) → waits s ended ≡ true → (ended ≡ false) × (ltb (length s) (needed s) ≡ true) × (leb (needed s) longest ≡ true)
 waited s true h = absurd (both_ways false refl h)
-waited s false h = let (less, short) = and_true (ltb (length s) (needed s)) h in (refl, less, short)
+waited s false h = let (less, short) = and_parts (ltb (length s) (needed s)) (leb (needed s) longest) h in (refl, less, short)
 
 -- nothing is waited for that is there, or that no frame may have
 none_waits : (s : List ℕ) (ended : Bool) → (ltb (length s) (needed s) ≡ false) ⊎ (leb (needed s) longest ≡ false) → waits s ended ≡ false
 none_waits s true h = refl
 none_waits s false (inl q) = rw q refl
-none_waits s false (inr q) = and_false (ltb (length s) (needed s)) q
+none_waits s false (inr q) = and_right (ltb (length s) (needed s)) (leb (needed s) longest) q
 
 scan_told : (s : List ℕ) (ended : Bool) → 0 < length s → byte_at s 0 ≡ som → waits s ended ≡ false → scan s ended ≡ told (read_at s) s
 scan_told s ended some first w = rw (ne_eqb (length s) 0 (λ z. omega arith), eq-eqb _ _ first, w) refl
@@ -148,7 +137,7 @@ waits_shortly s ended n e =
       | inl (z, q) ↦
           let m : n ≡ needed s = cc in
           let seven : needed s ≡ 7 = rw (lt-ltb (length s) 7 (omega (arith, z))) refl in
-          (omega (arith, z), omega (arith), λ _. empty s z)
+          (omega (arith, z), omega (arith), λ _. nil_from_length s z)
       | inr (inl (_, _, q)) ↦ absurd (omega (arith, ap tag (sym q ∙ e)))
       | inr (inr (inl (_, w, q))) ↦
           let m : n ≡ needed s = cc in
@@ -166,16 +155,17 @@ is_other s ended n e =
       | inr (inr (inr (_, _, _, q))) ↦ absurd (told_two (read_at s) s (Other n) (omega arith) (sym q ∙ e))
     ]
 
+pub refused_as_read : RefusedAsRead
+refused_as_read s ended e n q short =
+    let (some, first, w, told_e) = is_told s ended (Damaged e n) (omega arith) q in
+    let (err, is) = told_damaged (read_at s) s e n told_e in
+    rw (le-leb (needed s) longest short) at err
+
 -- ---- what is passed over
 
 one_more : (b : Bool) (m n : ℕ) → m ≤ n → cond b (1 + m) 0 ≤ cond b (1 + n) 0
 one_more true m n h = omega arith
 one_more false m n h = omega arith
-
-by_waits : (l n : ℕ) (a b : Bool) → ltb l n ≡ a → leb n longest ≡ b → (not false && ltb l n && leb n longest) ≡ false → (n ≤ l) ⊎ (longest < n)
-by_waits l n false b p q h = inl (ltb-false l n p)
-by_waits l n true false p q h = inr (leb-false n longest q)
-by_waits l n true true p q h = let no : true ≡ false = rw (p, q) at h in absurd (both_ways true no refl)
 
 by_seven : (s : List ℕ) (b : Bool) → ltb (length s) 7 ≡ b → waits s false ≡ false → 7 ≤ length s
 by_seven s false p h = ltb-false _ _ p
@@ -186,29 +176,25 @@ before_more : (s t : List ℕ) → before s ≤ before (s ++ t)
 before_more [] t = omega arith
 before_more (x ∷ s) t = one_more (not (eqb x som)) (before s) (before (s ++ t)) (before_more s t)
 
--- the next byte is passed over as well, and the rest
-drop_more : (s t : List ℕ) → 0 < length s → drop 1 (s ++ t) ≡ drop 1 s ++ t
-drop_more [] t h = absurd (omega arith)
-drop_more (x ∷ s) t h = refl
-
-waits_or : (l n : ℕ) → (not false && ltb l n && leb n longest) ≡ false → (n ≤ l) ⊎ (longest < n)
-waits_or l n h = by_waits l n (ltb l n) (leb n longest) refl refl h
-
 seven_there : (s : List ℕ) → waits s false ≡ false → 7 ≤ length s
 seven_there s h = by_seven s (ltb (length s) 7) refl h
 
+-- nothing more is waited for: it is there, or no frame may have as much
+none_left : (s : List ℕ) → waits s false ≡ false → (ltb (length s) (needed s) ≡ false) ⊎ (leb (needed s) longest ≡ false)
+none_left s w = and_cases (ltb (length s) (needed s)) (leb (needed s) longest) w
+
 read_at_more : (s t : List ℕ) → needed (s ++ t) ≡ needed s → waits s false ≡ false → read_at (s ++ t) ≡ read_at s
 read_at_more s t need w =
-    elim (waits_or (length s) (needed s) w) [
-      | inl h ↦ rw (need, take-append-le (needed s) s t h) refl
-      | inr h ↦ rw (need, lt-leb (needed s) longest h) refl
+    elim (none_left s w) [
+      | inl h ↦ rw (need, take-append-le (needed s) s t (ltb-false _ _ h)) refl
+      | inr h ↦ rw (need, h) refl
     ]
 
 waits_more : (s t : List ℕ) (ended : Bool) → needed (s ++ t) ≡ needed s → waits s false ≡ false → waits (s ++ t) ended ≡ false
 waits_more s t ended need w =
-    elim (waits_or (length s) (needed s) w) [
-      | inl h ↦ none_waits (s ++ t) ended (inl (rw need (le-ltb _ _ (omega (arith, length-append s t)))))
-      | inr h ↦ none_waits (s ++ t) ended (inr (rw need (lt-leb (needed s) longest h)))
+    elim (none_left s w) [
+      | inl h ↦ none_waits (s ++ t) ended (inl (rw need (le-ltb _ _ (omega (arith, ltb-false _ _ h, length-append s t)))))
+      | inr h ↦ none_waits (s ++ t) ended (inr (rw need h))
     ]
 
 pub same_in_parts : SameInParts
@@ -222,7 +208,7 @@ same_in_parts s t ended e n q =
     let first' : byte_at (s ++ t) 0 ≡ som = stays s t 0 some ∙ first in (
       1 + before (drop 1 (s ++ t)),
       scan_told (s ++ t) ended (omega (arith, more)) first' (waits_more s t ended need w) ∙ ap (λ o. told o (s ++ t)) (said ∙ err),
-      rw (is, drop_more s t some) (omega (arith, before_more (drop 1 s) t)),
+      rw (is, drop-append-le 1 s t some) (omega (arith, before_more (drop 1 s) t)),
     )
 
 -- a byte that is not the first of a frame

@@ -7,7 +7,7 @@ use Rattle.payload_util.specs.declared.Refusal.{Refusal}
 use Rattle.frame.specs.declared.Frame.{Frame}
 use Rattle.frame.specs.declared.scanner.Scanned.TheVariants.{Read, Damaged, Other, More}
 use Rattle.frame.specs.Frame.{longest, read_frame, payload_in, frame_payload, write_frame}
-use Rattle.frame.specs.Scan.{scan}
+use Rattle.frame.specs.Scan.{needed, scan}
 use Rattle.payload_util.specs.Refusals.{refusal}
 use Rattle.payload_util.specs.declared.Row.TheVariants.{UnknownCommand, UnknownReply}
 
@@ -47,28 +47,35 @@ BeginsFrame s = (n : ℕ) × (r : Frame) × (read_frame (take n s) ≡ Ok r)
 abbrev pub NoFrame : ℕ → List ℕ → Type 0
 NoFrame n s = (i : ℕ) → i < n → BeginsFrame (drop i s) → ⊥
 
--- a good frame at the front is found, whatever follows it
+-- R12.8: a good frame at the front is found, whatever follows it
 abbrev pub FindsFrames : Type 0
 FindsFrames = (f t : List ℕ) (r : Frame) (ended : Bool) → read_frame f ≡ Ok r → scan (f ++ t) ended ≡ Read r (length f)
 
--- what is found is a good frame, of bytes that are there
+-- R12.8: what is found is a good frame, of bytes that are there
 abbrev pub FoundIsRead : Type 0
 FoundIsRead =
     (s : List ℕ) (ended : Bool) (r : Frame) (n : ℕ) → scan s ended ≡ Read r n
     → (7 ≤ n) × (n ≤ length s) × (read_frame (take n s) ≡ Ok r)
 
--- no place is passed over at which a good frame begins, whatever bytes still come; and something is passed over, of the bytes that are there
+-- R12.7: no place is passed over at which a good frame begins, whatever bytes still come; and something is passed over, of the bytes that are there
 abbrev pub PassesNone : Type 0
 PassesNone =
-    (s t : List ℕ) (ended : Bool) (n : ℕ) → (ended ≡ true → t ≡ []) → (scan s ended ≡ Other n) ⊎ ((e : Refusal) × (scan s ended ≡ Damaged e n))
+    (s t : List ℕ) (ended : Bool) (n : ℕ) → (ended ≡ true → t ≡ [])
+    → (scan s ended ≡ Other n) ⊎ ((e : Refusal) × (scan s ended ≡ Damaged e n))
     → (1 ≤ n) × (n ≤ length s) × NoFrame n (s ++ t)
 
--- more bytes are asked for only if there are fewer, and never more than a frame may have; once a stream has ended, only where nothing is left
+-- R12.9: more bytes are asked for only if there are fewer, and never more than a frame may have; once a stream has ended, only where nothing is left
 abbrev pub WaitsShortly : Type 0
 WaitsShortly =
     (s : List ℕ) (ended : Bool) (n : ℕ) → scan s ended ≡ More n → (length s < n) × (n ≤ longest) × (ended ≡ true → s ≡ [])
 
--- a refusal is the same however the bytes come in parts; more of them may be passed over
+-- R12.8: a damaged frame is refused as a reader refuses it, unless it says that it is longer than a frame may be
+abbrev pub RefusedAsRead : Type 0
+RefusedAsRead =
+    (s : List ℕ) (ended : Bool) (e : Refusal) (n : ℕ) → scan s ended ≡ Damaged e n → needed s ≤ longest
+    → read_frame (take (needed s) s) ≡ Err e
+
+-- R12.8: a refusal is the same however the bytes come in parts; more of them may be passed over
 abbrev pub SameInParts : Type 0
 SameInParts =
     (s t : List ℕ) (ended : Bool) (e : Refusal) (n : ℕ) → scan s false ≡ Damaged e n

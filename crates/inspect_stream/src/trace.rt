@@ -151,9 +151,15 @@ impl Trace {
         Ok(())
     }
 
-    // What is wrong in a line, after what came before it.
+    // All that can be said of the stream so far, of which no more comes.
+    fn end_stream<W: Write>(&mut self, out: &mut W) -> io::Result<()> {
+        self.steps(true, &mut *out)?;
+        self.begin(None, out)
+    }
+
+    // What is wrong in a line, after what came before it. What is missing there breaks the stream: no frame goes on after it.
     fn complain<W: Write>(&mut self, fault: Fault, out: &mut W) -> io::Result<()> {
-        self.steps(false, &mut *out)?;
+        self.end_stream(&mut *out)?;
         self.counts.bad = self.counts.bad.saturating_add(1);
         let [line, column] = [self.digits.line, self.digits.column];
         writeln!(out, "line {line}, column {column}: {fault}")
@@ -187,8 +193,7 @@ impl Trace {
     // The end of the stream, and the counts.
     fn close<W: Write>(mut self, out: &mut W) -> io::Result<()> {
         self.end_line(&mut *out)?;
-        self.steps(true, &mut *out)?;
-        self.begin(None, &mut *out)?;
+        self.end_stream(&mut *out)?;
         let c = self.counts;
         writeln!(
             out,
@@ -215,6 +220,7 @@ pub fn all<P: Eprint + AllocGlobal, R: Read, W: Write>(
             trace.character(*b, out)?;
         }
         trace.steps(false, out)?;
+        out.flush()?;
     }
     trace.close(out)
 }

@@ -10,7 +10,7 @@ use Rattle.osdp_c.specs.Examples.{Flagged, Refused}
 
 pub flagged : Flagged
 unfolding at_least declared_len room read_command read_reply crc_bit crc_bits crc_byte check_over right_check known_code front control check_frame refuse_frame
-flagged = ((refl, refl), (refl, refl), (refl, refl))
+flagged = ((refl, refl), (refl, refl), (refl, refl), (refl, refl))
 
 pub refused : Refused
 unfolding at_least declared_len room read_command read_reply crc_bit crc_bits crc_byte check_over right_check known_code front control check_frame refuse_frame
