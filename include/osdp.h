@@ -109,7 +109,9 @@ int32_t osdp_normalise_reply(uint8_t code, const uint8_t *payload, size_t payloa
 
 /*
  * Whether bytes are one whole frame: 0x53, address, length of the whole as two bytes, control, code, payload, and a CRC of two bytes or a sum of one.
- * The code has to be in the table of commands or of replies; the payload is not examined. Returns 0, or the refusal's number negated.
+ * Returns 0, or the refusal's number negated, of several the first: OSDP_TOO_SHORT below 7 bytes; OSDP_FRAME for another first byte; OSDP_HOUSE_LIMIT;
+ * OSDP_DECLARED_LENGTH; OSDP_FRAME for a control byte above 7; OSDP_TOO_SHORT for a CRC in 7 bytes; OSDP_FRAME_CHECK; OSDP_UNKNOWN_COMMAND or
+ * OSDP_UNKNOWN_REPLY, by the side that the address names. The payload is not examined.
  */
 int32_t osdp_check_frame(const uint8_t *frame, size_t frame_len);
 
@@ -126,10 +128,10 @@ static inline const uint8_t *osdp_frame_payload(const uint8_t *frame) { return f
 static inline size_t osdp_frame_payload_len(const uint8_t *frame) { return (size_t)(frame[2] | frame[3] << 8) - 7u - osdp_frame_crc(frame); }
 
 /*
- * Writes a frame round a payload, which is not examined, with the length and the check. reply and crc are flags, 0 or not 0: a reply or a command, a CRC or
- * a sum. Returns how many bytes it wrote to the front of out, at most OSDP_LONGEST_FRAME, or the refusal's number negated: OSDP_FRAME for an address above
- * 127 or a sequence above 3, then OSDP_UNKNOWN_COMMAND or OSDP_UNKNOWN_REPLY, then OSDP_HOUSE_LIMIT, and OSDP_NO_ROOM last. It leaves all other bytes of
- * out unchanged.
+ * Writes a frame round a payload, which is not examined, with the length and the check. reply and crc are flags, 0 or not 0: a reply or a command, a CRC
+ * or a sum. Returns how many bytes it wrote to the front of out, at most OSDP_LONGEST_FRAME, or the refusal's number negated: OSDP_FRAME for an address
+ * above 127 or a sequence above 3, then OSDP_UNKNOWN_COMMAND or OSDP_UNKNOWN_REPLY, then OSDP_HOUSE_LIMIT, and OSDP_NO_ROOM last. It leaves all other
+ * bytes of out unchanged.
  */
 int32_t osdp_write_frame(uint8_t address, uint8_t reply, uint8_t sequence, uint8_t crc, uint8_t code,
                          const uint8_t *payload, size_t payload_len, uint8_t *out, size_t out_len);

@@ -12,6 +12,7 @@ mod tried;
 mod tried_frames;
 
 use calls::{Count, NO_ROOM};
+use judge::frame::{READ_ROWS, WRITE_ROWS};
 use judge::kinds::{kind, Kind, Side, KINDS};
 use memory::DIFFERENCES;
 use std::sync::atomic::{AtomicUsize, Ordering};
@@ -183,8 +184,10 @@ fn table(counts: &[[Count; 256]; 2]) -> bool {
 fn table_of_frames(counts: &[Count; 2]) -> bool {
     heading("frames", &FRAME_ROWS);
     let mut good = true;
-    for (way, rows) in [(Way::Read, &[1, 2, 4, 6, 20, 21, 22][..]), (Way::Write, &[1, 2, NO_ROOM.into(), 20, 22])] {
-        good &= line(&format!("frame {}", way.name()), &counts[way as usize], &FRAME_ROWS, rows, Some(false));
+    let [read, write] = [READ_ROWS.to_vec(), [&WRITE_ROWS[..], &[NO_ROOM]].concat()];
+    for (way, rows) in [(Way::Read, read), (Way::Write, write)] {
+        let rows: Vec<usize> = rows.into_iter().map(usize::from).collect();
+        good &= line(&format!("frame {}", way.name()), &counts[way as usize], &FRAME_ROWS, &rows, Some(false));
     }
     if counts.iter().map(|c| c.payloads).sum::<u64>() < LEAST_FRAMES {
         println!("frames: fewer than {LEAST_FRAMES}");

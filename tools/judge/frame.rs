@@ -18,6 +18,10 @@ pub const REPLY: u8 = 0x80;
 pub const SEQUENCE: u8 = 0x03;
 pub const CRC: u8 = 0x04;
 
+/// The rows that a reader can give, and a writer, except row 15.
+pub const READ_ROWS: [u8; 7] = [1, 2, 4, 6, 20, 21, 22];
+pub const WRITE_ROWS: [u8; 4] = [1, 2, 20, 22];
+
 #[derive(Clone, Copy, PartialEq, Eq)]
 pub struct Frame {
     /// Without the bit that a reply has.

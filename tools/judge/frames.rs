@@ -41,9 +41,9 @@ pub fn framed(address: u8, control: u8, code: u8, payload: &[u8]) -> Vec<u8> {
 }
 
 pub struct Drawn {
-    r: Chance,
+    pub r: Chance,
     /// The codes of commands, and of replies.
-    codes: [Vec<u8>; 2],
+    pub codes: [Vec<u8>; 2],
 }
 
 impl Drawn {
@@ -52,7 +52,7 @@ impl Drawn {
         Drawn { r: Chance::new(seed), codes }
     }
 
-    fn is(&mut self) -> bool {
+    pub fn is(&mut self) -> bool {
         self.r.below(2) == 0
     }
 
@@ -86,7 +86,7 @@ impl Drawn {
     }
 
     /// Any place of so many bytes; in every other draw one of the head.
-    fn place(&mut self, n: usize) -> usize {
+    pub fn place(&mut self, n: usize) -> usize {
         let n = if self.is() { n.min(HEAD) } else { n };
         self.r.below(n)
     }

@@ -1,6 +1,6 @@
 //! The wrong archives of the two calls on frames.
 use super::{by_scratch, mutant, shows, After, Answer, Ask, Call, Mutant, Place, Shows, Wrong, CALLS, LAST};
-use judge::frame::{complement, crc, known, read, sum, width, Frame, CRC, CRC_START, FIRST, HEAD, MOST, REPLY, SEQUENCE};
+use judge::frame::{complement, crc, known, read, sum, width, Frame, CRC, CRC_START, FIRST, HEAD, MOST, READ_ROWS, REPLY, SEQUENCE, WRITE_ROWS};
 use judge::frames::{checked, framed, CONTROL};
 use judge::kinds::Side;
 use judge::read::normalised;
@@ -131,7 +131,7 @@ pub fn all() -> Vec<Mutant> {
 /// What is refused by the row is taken.
 fn read_rows() -> Vec<Mutant> {
     let left_out = |row: u8| Mutant { row, ..reading(&format!("row {row} is left out"), Answer(|c| if c.is_row(c.row) { c.accept() })) };
-    [1, 2, 4, 6, 20, 21, 22].map(left_out).into()
+    READ_ROWS.map(left_out).into()
 }
 
 fn read_limits() -> Vec<Mutant> {
@@ -266,7 +266,7 @@ fn read_answers() -> Vec<Mutant> {
 fn written_rows() -> Vec<Mutant> {
     let left_out = |row: u8| Mutant { row, ..writing(&format!("row {row} is left out"), Answer(|c| if c.is_row(c.row) { c.write_anyway() })) };
     let no_room = Mutant { row: 15, ..writing("row 15 is left out", After(|c| if c.returned == -15 { c.returned = c.need() as i32 })) };
-    [1, 2, 20, 22].map(left_out).into_iter().chain([no_room]).collect()
+    WRITE_ROWS.map(left_out).into_iter().chain([no_room]).collect()
 }
 
 fn written_limits() -> Vec<Mutant> {

@@ -1,6 +1,6 @@
 //! Cases with their answers in the vector format, which crates/vectors/README.md describes.
 use crate::answer::{names, Answer, Case};
-use judge::frame::{Frame, HEAD, MOST};
+use judge::frame::{Frame, HEAD, MOST, READ_ROWS, WRITE_ROWS};
 use judge::kinds::{Field, Kind, KINDS};
 use judge::refusal::{Refusal, DECLARED_LENGTH};
 use judge::scan::Scanned;
@@ -273,7 +273,7 @@ impl Tally {
     /// The refusals of the reader and of the writer of frames that never occurred, and the sides and checks that were never read or written.
     fn frames_lacking(&self) -> Vec<String> {
         let mut lacking = Vec::new();
-        for (class, what, rows) in [(FRAME, "read", &[1, 2, 4, 6, 20, 21, 22][..]), (FRAME_WRITE, "written", &[1, 2, 20, 22])] {
+        for (class, what, rows) in [(FRAME, "read", &READ_ROWS[..]), (FRAME_WRITE, "written", &WRITE_ROWS)] {
             let never = |row: &&u8| !self.rows.contains_key(&(class, **row));
             lacking.extend(rows.iter().filter(never).map(|row| format!("row {row} of a frame to be {what}")));
             for (reply, crc) in [(false, false), (false, true), (true, false), (true, true)] {
@@ -290,7 +290,7 @@ impl Tally {
 
     /// The steps of a stream that never occurred.
     fn steps_lacking(&self) -> Vec<String> {
-        let rows = [1, 2, 4, 6, 20, 21, 22].map(|row| (DAMAGED, row..=row, format!("row {row} in a stream")));
+        let rows = READ_ROWS.map(usize::from).map(|row| (DAMAGED, row..=row, format!("row {row} in a stream")));
         let others = [
             (READ, 0..=0, "frame read in a stream"),
             (OTHER, 0..=0, "other bytes in a stream"),

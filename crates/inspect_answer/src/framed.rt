@@ -7,7 +7,7 @@ use std::io;
 use std::io::Write;
 
 // What a frame says beside its payload, and the payload; and whether this was accepted.
-pub fn read<W: Write>(
+pub fn parts<W: Write>(
     frame: Frame,
     bytes: &[u8],
     space: &mut [u8],
@@ -36,7 +36,7 @@ pub fn read<W: Write>(
 pub(crate) fn whole<W: Write>(bytes: &[u8], space: &mut [u8], out: &mut W) -> io::Result<bool> {
     writeln!(out, "frame, length {}", bytes.len())?;
     match Frame::decode(bytes) {
-        Ok(frame) => read(frame, bytes, space, out),
+        Ok(frame) => parts(frame, bytes, space, out),
         Err(e) => {
             write!(out, "  ")?;
             refusal(e, out)?;

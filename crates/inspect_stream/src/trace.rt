@@ -119,7 +119,7 @@ impl Trace {
         let offset = self.stream.offset;
         writeln!(out, "offset {offset}: frame, length {n}")?;
         let bytes = self.stream.next(n);
-        framed::read(frame, bytes, &mut self.space, out)?;
+        framed::parts(frame, bytes, &mut self.space, out)?;
         self.stream.pass(n);
         self.passed = Passed::from(self.stream.offset, None);
         Ok(())
