@@ -8,14 +8,14 @@ CHECKS := proof-map rows lib-selftest inputs names lib example demo compare muta
 .PHONY: help
 help:
 	@echo "make run          proves and builds inspect, and shows the sample payloads with it"
-	@echo "make inputs       inspect on bad lines, bad files, every code, the longest payloads, and many lines"
+	@echo "make inputs       inspect on bad lines, bad files, every code, the longest payloads, frames, streams, and many lines"
 	@echo "make test         the gate: proves every crate, tries the must-fail edits, runs the programs (.ci/run)"
 	@echo "make lib          proves osdp_c and writes $(LIB); the header is include/osdp.h; holds its stack, outside symbols and writable data to limits"
 	@echo "  lib-selftest      whether that last check can fail"
 	@echo "make example      builds and runs the batch of examples/c with gcc, and with clang if there is one"
 	@echo "make demo         builds and runs the round of examples/c, a controller and its readers over a pseudo-terminal, and holds README.md to its sheet"
 	@echo "make compare      against the original Rust: compare-vectors, then compare-calls"
-	@echo "  compare-vectors   the Rust's answers to generated cases, and a model's to frames, replayed by the program vectors"
+	@echo "  compare-vectors   the Rust's answers to generated cases, and models' to frames and streams, replayed by the program vectors"
 	@echo "  compare-calls     the six C calls, in one process with the Rust"
 	@echo "make mutants      whether compare-calls notices what is wrong: archives with one thing wrong each"
 	@echo "make bench        times and instructions against the original Rust, to build/bench"
