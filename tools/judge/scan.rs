@@ -1,4 +1,4 @@
-//! The frames of a serial line's stream of bytes: a plain model of what `frame::scan` says.
+//! The frames of a serial line's stream of bytes: a plain model, written from R12.6 of docs/REQUIREMENTS.md.
 use crate::frame::{read, Frame, FIRST, HEAD, MOST};
 use crate::refusal::Refusal;
 
