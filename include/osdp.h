@@ -13,7 +13,7 @@
  * - No call keeps a pointer, allocates, blocks, or has state: any thread may call any of them at any time, without a lock.
  * - Nothing beyond frame_len, payload_len and out_len bytes is read or written, whatever frame or payload holds.
  *
- * Link with libosdp.a; nothing else is needed. The only functions of the C library that it calls are memcpy and memmove.
+ * Link with libosdp.a; nothing else is needed. The only function of the C library that it calls is memmove.
  */
 #ifndef OSDP_H
 #define OSDP_H

@@ -208,6 +208,10 @@ impl Frame {
         let head = self.head(len as u16);
         let value = check_over(self.crc, &head, payload);
         let check = value.to_le_bytes();
-        put_parts(&head, payload, &check[..last], self.code, out)
+        // Two calls, each with a check of known length: else the copy of it asks for memcpy from outside.
+        if self.crc {
+            return put_parts(&head, payload, &check, self.code, out);
+        }
+        put_parts(&head, payload, &check[..1], self.code, out)
     }
 }

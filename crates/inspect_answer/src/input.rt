@@ -3,14 +3,14 @@ use crate::answer::payload;
 use crate::failure::read;
 use crate::framed;
 use inspect_form::shown::Text;
-use inspect_line::{Content, Fault, LONGEST, Line, Place, WORD_SHOWN};
+use inspect_line::{Content, Fault, LONGEST, Line, Place, Taken, WORD_SHOWN};
 use std::io;
 use std::io::{Read, Write};
 
 // Where the input stands: the line so far, and how many lines of each sort there were before it.
 #[derive(Drop)]
 struct Input {
-    line: Line,
+    taken: Taken,
     read: u64,
     refused: u64,
     bad: u64,
@@ -21,7 +21,7 @@ struct Input {
 impl Input {
     fn new() -> Input {
         Input {
-            line: Line::new(),
+            taken: Taken::new(),
             read: 0,
             refused: 0,
             bad: 0,
@@ -32,9 +32,9 @@ impl Input {
     // A line that is no payload and no frame. If its first word is wrong, that is shown.
     fn complain<W: Write>(&mut self, fault: Fault, out: &mut W) -> io::Result<()> {
         self.bad = self.bad.saturating_add(1);
-        let line = &self.line;
-        write!(out, "line {}, column {}: {fault}", line.number, line.column)?;
-        let word = line.bytes();
+        let Line { number, column, .. } = self.taken.line;
+        write!(out, "line {number}, column {column}: {fault}")?;
+        let word = self.taken.bytes();
         match fault {
             Fault::Word if WORD_SHOWN < word.len() => {
                 writeln!(out, " {} (cut)", Text(&word[..WORD_SHOWN]))
@@ -46,7 +46,7 @@ impl Input {
 
     // What the line holds; whether it was accepted.
     fn show<W: Write>(&mut self, content: Content, out: &mut W) -> io::Result<bool> {
-        let bytes = self.line.bytes();
+        let bytes = self.taken.bytes();
         match content {
             Content::Payload(head) => payload(head, bytes, &mut self.space, out),
             Content::Frame => framed::whole(bytes, &mut self.space, out),
@@ -54,7 +54,7 @@ impl Input {
     }
 
     fn answer<W: Write>(&mut self, content: Content, out: &mut W) -> io::Result<()> {
-        write!(out, "line {}: ", self.line.number)?;
+        write!(out, "line {}: ", self.taken.line.number)?;
         if self.show(content, out)? {
             self.read = self.read.saturating_add(1);
         } else {
@@ -64,8 +64,8 @@ impl Input {
     }
 
     fn end_line<W: Write>(&mut self, out: &mut W) -> io::Result<()> {
-        self.line.end();
-        match self.line.place {
+        self.taken.end();
+        match self.taken.line.place {
             Place::Bytes(content) | Place::Whole(content) => self.answer(content, out),
             Place::Bad(fault) => self.complain(fault, out),
             _ => Ok(()),
@@ -76,15 +76,15 @@ impl Input {
     fn byte<W: Write>(&mut self, b: u8, out: &mut W) -> io::Result<()> {
         if b == b'\n' {
             self.end_line(out)?;
-            self.line.restart();
+            self.taken.restart();
         } else {
-            self.line.take(b);
+            self.taken.take(b);
         }
         Ok(())
     }
 
     // The last line, and the counts.
-    fn close<W: Write>(mut self, out: &mut W) -> io::Result<()> {
+    fn close<W: Write>(&mut self, out: &mut W) -> io::Result<()> {
         self.end_line(out)?;
         match (self.read, self.refused, self.bad) {
             (0, 0, 0) => writeln!(out, "no payload and no frame in the input"),
@@ -96,6 +96,8 @@ impl Input {
 }
 
 // The payloads and frames of an open file, up to its end or to a read that fails. There are more turns than any file needs.
+// Not inlined, so that its buffers take no stack from the caller's other reading.
+#[inline(never)]
 pub fn all<P: Eprint + AllocGlobal, R: Read, W: Write>(
     rt: &P,
     from: &mut R,

@@ -60,12 +60,19 @@ pub enum Place {
     Bad(Fault),
 }
 
-#[derive(Drop)]
+// How far a line is.
+#[derive(Clone, Copy, Debug, PartialEq, Eq)]
 pub struct Line {
     // both count from 1; the column is that of the fault, once there is one
     pub number: usize,
     pub column: usize,
     pub place: Place,
+}
+
+// What was taken of a line.
+#[derive(Drop)]
+pub struct Taken {
+    pub line: Line,
     // the payload or the frame, or before it the word
     bytes: ArrayVec<u8, LONGEST>,
 }
@@ -120,30 +127,44 @@ impl fmt::Display for Fault {
 }
 
 impl Line {
+    ghost use Rattle.std.specs.Prelude.{◌≡◌};
+    ghost use Rattle.inspect_line.specs.declared.Place.TheVariants.{Start};
+
+    // A line of which nothing was taken yet.
+    pub fn new(number: usize) -> Line
+        ensures number { result.number ≡ number }
+        ensures column { result.column ≡ 0 }
+        ensures place { result.place ≡ Start }
+    {
+        Line {
+            number,
+            column: 0,
+            place: Place::Start,
+        }
+    }
+}
+
+impl Taken {
     ghost use Rattle.std.specs.Prelude.{◌≡◌, ◌+◌, ◌-◌, ◌^◌, [], min};
     ghost use Rattle.inspect_line.specs.declared.Place.TheVariants.{Start};
     ghost use Rattle.inspect_line.specs.Line.{bytes_of};
 
     // The first line.
-    pub fn new() -> Line {
-        Line {
-            number: 1,
-            column: 0,
-            place: Place::Start,
+    pub fn new() -> Taken {
+        Taken {
+            line: Line::new(1),
             bytes: ArrayVec::new(),
         }
     }
 
     // Goes on to the next line, of which nothing was taken yet.
     pub fn restart(&mut self)
-        ensures number { self.new.number ≡ min (self.old.number + 1) (2 ^ 64 - 1) }
-        ensures column { self.new.column ≡ 0 }
-        ensures place { self.new.place ≡ Start }
+        ensures number { self.new.line.number ≡ min (self.old.line.number + 1) (2 ^ 64 - 1) }
+        ensures column { self.new.line.column ≡ 0 }
+        ensures place { self.new.line.place ≡ Start }
         ensures bytes { bytes_of self.new ≡ [] }
     {
-        self.number = self.number.saturating_add(1);
-        self.column = 0;
-        self.place = Place::Start;
+        self.line = Line::new(self.line.number.saturating_add(1));
         self.bytes.clear();
     }
 
@@ -161,7 +182,7 @@ impl Line {
         if b == b'#' {
             return Ok(Place::Comment);
         }
-        self.word(self.column, b)
+        self.word(self.line.column, b)
     }
 
     fn word(&mut self, column: usize, b: u8) -> Result<Place, Fault> {
@@ -181,7 +202,7 @@ impl Line {
             b"reply" => Place::Gap(Side::Reply),
             b"frame" => Place::Bytes(Content::Frame),
             _ => {
-                self.column = column;
+                self.line.column = column;
                 return Err(Fault::Word);
             }
         };
@@ -203,7 +224,7 @@ impl Line {
 
     // What follows one more byte.
     fn next(&mut self, b: u8) -> Result<Place, Fault> {
-        match self.place {
+        match self.line.place {
             Place::Start => self.start(b),
             Place::Word(column) => self.word(column, b),
             Place::Gap(side) => gap(side, b),
@@ -212,25 +233,25 @@ impl Line {
             Place::Coded(_) => Err(Fault::Code),
             Place::Bytes(content) => bytes(content, b),
             Place::Half(content, high) => self.half(content, high, b),
-            Place::Comment | Place::Whole(_) => Ok(self.place),
+            Place::Comment | Place::Whole(_) => Ok(self.line.place),
             Place::Bad(fault) => Err(fault),
         }
     }
 
     // Takes one more byte, which does not end the line.
     pub fn take(&mut self, b: u8) {
-        if matches!(self.place, Place::Bad(_)) {
+        if matches!(self.line.place, Place::Bad(_)) {
             return;
         }
-        self.column = self.column.saturating_add(1);
-        self.place = self.next(b).unwrap_or_else(Place::Bad);
+        self.line.column = self.line.column.saturating_add(1);
+        self.line.place = self.next(b).unwrap_or_else(Place::Bad);
     }
 
     // Ends the line, where a blank completes what it ends in: its place is then Bytes or Whole, Bad, or one that holds nothing.
     pub fn end(&mut self) {
         self.take(b' ');
-        if matches!(self.place, Place::Gap(_)) {
-            self.place = Place::Bad(Fault::NoCode);
+        if matches!(self.line.place, Place::Gap(_)) {
+            self.line.place = Place::Bad(Fault::NoCode);
         }
     }
 }

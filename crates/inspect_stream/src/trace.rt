@@ -204,6 +204,8 @@ impl Trace {
 }
 
 // The frames of an open file, up to its end or to a read that fails. There are more turns than any file needs.
+// Not inlined, so that its buffers take no stack from the caller's other reading.
+#[inline(never)]
 pub fn all<P: Eprint + AllocGlobal, R: Read, W: Write>(
     rt: &P,
     from: &mut R,

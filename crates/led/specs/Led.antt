@@ -2,6 +2,7 @@
 -- and timer u16; permanent control, on time, off time, on colour and off colour.
 use Rattle.std.specs.Prelude.{List, [], ◌∷◌, ◌++◌, ℕ, ◌*◌, cond, ltb, length, drop, Option, None, Some}
 use Rattle.payload_util.specs.Prelude.{byte_at, u16_at, u16_bytes, positive_multiple_of, named, Keep, any, up_to, Loss, above_in_each, limited, within_limits, in_order, ◌also◌, Guard, Form, listed}
+use Rattle.payload_util.specs.Form.{Listed}
 use Rattle.payload_util.specs.declared.Row.{Row}
 use Rattle.payload_util.specs.declared.Row.TheVariants.{Folded, SecondGenerationColor}
 use Rattle.led.specs.declared.LedColor.{LedColor}
@@ -100,12 +101,15 @@ abbrev pub colors_known : Generation → List ℕ → Guard
 colors_known Second p = colors_within Folded highest_color p
 colors_known First p = colors_within Folded highest_color p also colors_within SecondGenerationColor (highest_known First) p
 
-abbrev pub leds : Form
-leds = listed (record {
+abbrev pub led_row : Listed LedRecord
+led_row = record {
   code = led_code;
   width = 14;
   check = positive_multiple_of 14;
   fields = led_of;
   bytes = led_bytes;
   loss = led_loss highest_color;
-})
+}
+
+abbrev pub leds : Form
+leds = listed led_row

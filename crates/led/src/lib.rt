@@ -1,11 +1,13 @@
 // osdp_LED (0x69), reader LED control: a list of records, each with a temporary and a permanent half.
 #![tactic(auto)]
 
-ghost use Rattle.std.specs.Prelude.{◌≡◌, ◌*◌, ◌/◌, ◌≤◌, ◌<◌, length, refl};
+ghost use Rattle.std.specs.Prelude.{◌≡◌, ◌∷◌, [], ◌*◌, ◌/◌, ◌≤◌, ◌<◌, length, refl};
 ghost use Rattle.std.proofs.Common.{lit<};
-ghost use Rattle.payload_util.specs.Prelude.{keep, times};
+ghost use Rattle.payload_util.specs.Prelude.{keep, times, code, fields};
+ghost use Rattle.payload_util.specs.Form.{bytes};
+ghost use Rattle.lists.specs.List.{put_at};
 ghost use Rattle.led.specs.Led.{color_byte, color_of, highest_color, highest_known};
-ghost use Rattle.led.specs.Led.{temporary_of, permanent_of, led_of, led_bytes, led_code, led_at, led_limits, record_within, colors_within, colors_known, leds};
+ghost use Rattle.led.specs.Led.{temporary_of, permanent_of, led_of, led_bytes, led_code, led_at, led_limits, record_within, colors_within, colors_known, led_row, leds};
 
 use lists::{ListRecord, put_at};
 use payload_util::{
@@ -197,9 +199,13 @@ impl ListRecord for LedRecord {
 
     ghost WIRE_LEN = { 14 };
 
-    ghost fields = { led_of };
+    ghost list_row = { led_row };
 
-    ghost bytes = { led_bytes };
+    ghost same_width = { refl };
+
+    ghost same_code = { refl };
+
+    ghost same_check = { λ p. refl };
 
     ghost some_bytes = { lit< tt };
 
@@ -209,7 +215,9 @@ impl ListRecord for LedRecord {
         Self::CODE
     }
 
-    fn fields(p: &[u8]) -> LedRecord {
+    fn fields(p: &[u8]) -> LedRecord
+        ensures { result ≡ fields leds p.now }
+    {
         LedRecord {
             reader: byte_at(p, 0),
             led: byte_at(p, 1),
@@ -218,7 +226,9 @@ impl ListRecord for LedRecord {
         }
     }
 
-    fn encode_at(self, out: &mut [u8], offset: usize) -> Result<usize, Refusal> {
+    fn encode_at(self, out: &mut [u8], offset: usize) -> Result<usize, Refusal>
+        ensures { (result, out.new) ≡ put_at (code leds) offset (bytes leds (self ∷ [])) out.old }
+    {
         put_at(&self.to_bytes(), Self::CODE, out, offset)
     }
 }

@@ -6,14 +6,15 @@ use mathlib.Core.List.{List, [], ◌∷◌, ◌++◌, append-nil}
 use Prim.Native.Nat.{ℕ, zero, suc, ◌+◌, ◌*◌, ◌/◌, ◌≤◌, ◌<◌, min}
 use native.Mathlib.Nat.{mod-add-div}
 use native.Mathlib.Omega.{arith}
-use lib.ListN.{get_or-append, length-append, length}
+use lib.ListN.{get_or-append, length-append, length, drop, length-drop}
 use lib.Seq.{get_or-drop}
-use borrow.Author.Tests.{leb-true, leb-false}
+use borrow.Author.Tests.{leb-true, leb-false, le-leb}
 use lib.Dec.{leb}
+use Rattle.std.proofs.lemmas.Bool.Decides.{nat_tests}
 use Rattle.std.proofs.lemmas.List.{nil_from_length, get_or-append-add}
 use Rattle.payload_util.specs.Bytes.{byte_at, flat}
 use Rattle.payload_util.specs.Refusals.{◌also◌, in_order, Guard, Pass, refusal}
-use Rattle.payload_util.specs.Guards.{positive_multiple_of}
+use Rattle.payload_util.specs.Guards.{at_least, positive_multiple_of}
 use Rattle.payload_util.specs.Outcome.{guard_of, value_or}
 use Rattle.payload_util.specs.Form.{check}
 use Rattle.payload_util.proofs.Guards.{also_pass, multiple_pass, pass_multiple}
@@ -24,11 +25,11 @@ use Rattle.payload_util.proofs.Parts.{by_head}
 use Rattle.payload_util.proofs.Each.{each_kept}
 use Rattle.payload_util.specs.Law.{Law}
 use Rattle.payload_util.proofs.Forms.{listed_law}
-use Rattle.output.specs.Output.{out_code, output_byte, output_codes, read_output_code, code_known, codes_known, out_of, out_bytes, outputs}
+use Rattle.output.specs.Output.{out_code, output_byte, output_codes, read_output_code, code_known, codes_known, out_of, read_out_at, out_bytes, outputs}
 use Rattle.output.specs.declared.OutputRecord.{OutputRecord}
 use Rattle.output.specs.declared.OutputControlCode.{OutputControlCode}
 use Rattle.output.specs.declared.OutputControlCode.TheVariants.{Nop}
-use Rattle.std.specs.Prelude.{Ok}
+use Rattle.std.specs.Prelude.{Ok, Err}
 use Rattle.payload_util.specs.declared.Row.TheVariants.{UnknownOutputCode}
 
 -- a code's byte reads back as the code
@@ -46,7 +47,7 @@ unfolding read_output_code
 output_kept b e = exact_value output_byte (refusal UnknownOutputCode out_code 0 0) output_codes b Nop e
 
 -- the bytes up to 6 are codes
-low_known : (b : ℕ) → b ≤ 6 → guard_of (read_output_code b) ≡ Pass
+pub low_known : (b : ℕ) → b ≤ 6 → guard_of (read_output_code b) ≡ Pass
 unfolding read_output_code
 low_known zero h = refl
 low_known (suc zero) h = refl
@@ -56,6 +57,10 @@ low_known (suc (suc (suc (suc zero)))) h = refl
 low_known (suc (suc (suc (suc (suc zero))))) h = refl
 low_known (suc (suc (suc (suc (suc (suc zero)))))) h = refl
 low_known (suc (suc (suc (suc (suc (suc (suc b))))))) h = absurd (omega arith)
+
+pub high_unknown : (b : ℕ) → 6 < b → guard_of (read_output_code b) ≡ Err (refusal UnknownOutputCode out_code 0 0)
+unfolding read_output_code
+high_unknown b h = grind (arith, nat_tests)
 
 -- ---- the codes of records, part by part
 
@@ -126,6 +131,13 @@ module _ (p : List ℕ) (g : check outputs p ≡ Pass) where
   out_codes : (k : ℕ) → k < length p / 4 → code_known p k ≡ Pass
   unfolding codes_known
   out_codes = all_pass (code_known p) (length p / 4) (also_pass (positive_multiple_of 4 out_code p) (codes_known p) g).1
+
+  -- each record of an accepted list can be read by itself
+  pub record_reads : (k : ℕ) → k < length p / 4 → read_out_at (drop (4 * k) p) ≡ Ok (out_of (drop (4 * k) p))
+  unfolding at_least
+  record_reads k h =
+      let long : 4 ≤ length (drop (4 * k) p) = simp length-drop (omega arith) in
+      simp (le-leb 4 (length (drop (4 * k) p)) long, get_or-drop (4 * k) p 1 0, out_codes k h)
 
 -- the codes of records are known in their bytes
 code_written : (rs : List OutputRecord) (k : ℕ) → k < length rs → code_known (flat out_bytes rs) k ≡ Pass

@@ -5,6 +5,7 @@ use Rattle.output.specs.declared.OutputControlCode.TheVariants.{Nop, PermanentOf
 use Rattle.output.specs.declared.OutputControlCode.{OutputControlCode}
 use Rattle.output.specs.declared.OutputRecord.{OutputRecord}
 use Rattle.payload_util.specs.Refusals.{Guard, refusal}
+use Rattle.payload_util.specs.Form.{Listed}
 use Rattle.payload_util.specs.declared.Row.TheVariants.{UnknownOutputCode}
 
 abbrev pub out_code : ℕ
@@ -36,6 +37,10 @@ code_known p index = guard_of (read_output_code (byte_at p (4 * index + 1)))
 unfoldable pub codes_known : List ℕ → Guard
 codes_known p = in_order (code_known p) 0 (length p / 4)
 
+-- the code of the record in the first bytes, where it is in the record as a number
+abbrev pub code_in_place : List ℕ → ℕ
+code_in_place q = byte_at q 1 * 256
+
 -- the record in the first bytes, with this code
 abbrev pub out_with : OutputControlCode → List ℕ → OutputRecord
 out_with c q = record { output = byte_at q 0; code = c; timer = u16_at q 2 }
@@ -51,12 +56,15 @@ abbrev pub out_bytes : OutputRecord → List ℕ
 out_bytes r = r.output ∷ output_byte r.code ∷ u16_bytes r.timer
 
 -- one unknown code refuses the whole list
-abbrev pub outputs : Form
-outputs = listed (record {
+abbrev pub output_row : Listed OutputRecord
+output_row = record {
   code = out_code;
   width = 4;
   check = λ c p. positive_multiple_of 4 c p also codes_known p;
   fields = out_of;
   bytes = out_bytes;
   loss = nothing;
-})
+}
+
+abbrev pub outputs : Form
+outputs = listed output_row

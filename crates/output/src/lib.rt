@@ -1,15 +1,17 @@
 // osdp_OUT (0x68), output control: a list of records, one for each output to drive.
 #![tactic(auto)]
 
-ghost use Rattle.std.specs.Prelude.{true, ◌≡◌, ◌≤◌, length, drop, refl};
+ghost use Rattle.std.specs.Prelude.{true, ◌≡◌, ◌∷◌, [], ◌≤◌, length, drop, refl};
 ghost use Rattle.std.proofs.Common.{lit<};
-ghost use Rattle.payload_util.specs.Prelude.{Pass};
-ghost use Rattle.output.specs.Output.{output_byte, read_output_code, codes_known, out_of, out_with, read_out_at, out_bytes, outputs};
+ghost use Rattle.payload_util.specs.Prelude.{Pass, code, fields};
+ghost use Rattle.payload_util.specs.Form.{bytes};
+ghost use Rattle.lists.specs.List.{put_at};
+ghost use Rattle.output.specs.Output.{output_byte, read_output_code, code_in_place, codes_known, out_of, out_with, read_out_at, output_row, outputs};
 
 use lists::{ListRecord, put_at};
 use payload_util::{
-    Payload, Refusal, Row, byte_at, put_payload, require_at_least, require_positive_multiple_of,
-    tail_from, u16_at,
+    Payload, Refusal, Row, byte_at, put_payload, require, require_at_least,
+    require_positive_multiple_of, tail_from, u16_at,
 };
 
 // Table 14.
@@ -84,9 +86,13 @@ impl ListRecord for OutputRecord {
 
     ghost WIRE_LEN = { 4 };
 
-    ghost fields = { out_of };
+    ghost list_row = { output_row };
 
-    ghost bytes = { out_bytes };
+    ghost same_width = { refl };
+
+    ghost same_code = { refl };
+
+    ghost same_check = { λ p. refl };
 
     ghost some_bytes = { lit< tt };
 
@@ -97,12 +103,16 @@ impl ListRecord for OutputRecord {
     }
 
     // The codes of a list that passed its checks are known; an unknown one would give Nop.
-    fn fields(p: &[u8]) -> OutputRecord {
+    fn fields(p: &[u8]) -> OutputRecord
+        ensures { result ≡ fields outputs p.now }
+    {
         let code = OutputControlCode::from_byte(byte_at(p, 1));
         Self::with_code(p, code.unwrap_or(OutputControlCode::Nop))
     }
 
-    fn encode_at(self, out: &mut [u8], offset: usize) -> Result<usize, Refusal> {
+    fn encode_at(self, out: &mut [u8], offset: usize) -> Result<usize, Refusal>
+        ensures { (result, out.new) ≡ put_at (code outputs) offset (bytes outputs (self ∷ [])) out.old }
+    {
         let timer = self.timer.to_le_bytes();
         let bytes = [self.output, self.code.as_byte(), timer[0], timer[1]];
         put_at(&bytes, Self::CODE, out, offset)
@@ -164,13 +174,34 @@ impl OutputRecord {
         Ok(())
     }
 
-    // Checks the codes of all records, in order.
+    // The code of a record, where it is in the record as a number.
+    fn code_in_place(r: &[u8; 4]) -> u32
+        ensures { result ≡ code_in_place r.now }
+    {
+        u32::from_le_bytes(*r) & 0xFF00
+    }
+
+    // Checks the codes of all records by the highest: row 7 names no record. With no way out of the loop the compiler takes eight records a turn.
+    fn check_highest(p: &[u8]) -> Result<(), Refusal>
+        ensures { result ≡ codes_known p.now }
+    {
+        let (records, _) = p.as_chunks::<4>();
+        let highest = records
+            .iter()
+            .fold(0, |most, r| most.max(Self::code_in_place(r)));
+        require(
+            highest <= (OutputControlCode::HIGHEST as u32) << 8,
+            Refusal::new(Row::UnknownOutputCode, Self::CODE),
+        )
+    }
+
+    // Checks the codes of all records.
     fn check_codes(p: &[u8]) -> Result<(), Refusal>
         ensures { result ≡ codes_known p.now }
     {
-        for records in p.chunks(4 * Self::WIRE_LEN) {
-            Self::check_few(records)?;
+        if p.len() <= 4 * Self::WIRE_LEN {
+            return Self::check_few(p);
         }
-        Ok(())
+        Self::check_highest(p)
     }
 }

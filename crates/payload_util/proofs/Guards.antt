@@ -165,3 +165,8 @@ guard_gives e = simp e
 
 pub guard_refuses : {A : Type 0} {o : Outcome A} {e : Refusal} → o ≡ Err e → guard_of o ≡ Err e
 guard_refuses e = simp e
+
+-- a reader's refusal is that of its checks
+pub guard_outcome : {A : Type 0} (g : Guard) (a : A) → guard_of (outcome g a) ≡ g
+guard_outcome (Ok _) a = refl
+guard_outcome (Err e) a = refl

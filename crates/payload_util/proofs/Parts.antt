@@ -5,13 +5,17 @@ use mathlib.Core.List.{List, [], ◌∷◌, ◌++◌}
 use Prim.Native.Nat.{ℕ, zero, suc, ◌+◌, ◌≤◌}
 use native.Mathlib.Nat.{add-zero, zero-add}
 use native.Mathlib.Omega.{arith}
-use lib.ListN.{length, get_or, drop, length-append, drop_of_length-le}
+use lib.ListN.{length, get_or, take, drop, length-append, drop_of_length-le}
 use lib.Seq.{paste, take-length, take-append_seam, drop-append-add, drop-cons, drop-drop}
 use Rattle.payload_util.specs.Guards.{room}
 use Rattle.payload_util.specs.Writing.{put}
 use Rattle.std.specs.Prelude.{Ok, Err}
 use Rattle.payload_util.specs.Refusals.{Pass}
 use Rattle.payload_util.specs.declared.Refusal.{Refusal}
+
+-- e is the block d with s at its front
+pub front : (d s e : List ℕ) → e ≡ paste d 0 s (length s) → take (length s) e ≡ s
+front d s e p = simp (p, take-length, zero-add, take-append_seam)
 
 -- d is the buffer with the head, and e is d with the tail after it
 pub two_parts : (code : ℕ) (h t out d e : List ℕ) → room code (length h + length t) (length out) ≡ Pass

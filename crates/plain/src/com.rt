@@ -3,11 +3,10 @@ ghost use Rattle.std.specs.Prelude.{◌≡◌};
 ghost use Rattle.payload_util.specs.Prelude.{fields, write};
 ghost use Rattle.plain.specs.Com.{address_and_baud};
 
+use crate::comset::ComSet;
 use payload_util::{
     Payload, Record, Refusal, byte_at, put_payload, require_exact_len, u32_at, u32_bytes,
 };
-
-pub(crate) const LEN: usize = 5;
 
 // What COM and COMSET hold; they differ in the code byte alone.
 #[derive(Clone, Copy, Debug, PartialEq, Eq)]
@@ -22,7 +21,12 @@ impl<const CODE: u8> Payload for AddressAndBaud<CODE> {
     ghost form = { address_and_baud CODE };
 
     fn check(p: &[u8]) -> Result<(), Refusal> {
-        require_exact_len(p, LEN, CODE)
+        let len = if CODE == ComSet::CODE {
+            ComSet::WIRE_LEN
+        } else {
+            Com::WIRE_LEN
+        };
+        require_exact_len(p, len, CODE)
     }
 
     fn put_kept(p: &[u8], out: &mut [u8]) -> Result<usize, Refusal> {
@@ -55,9 +59,9 @@ impl<const CODE: u8> AddressAndBaud<CODE> {
 
 pub type Com = AddressAndBaud<0x54>;
 
-// Its own constants, since a pattern of a `match` cannot name one of an `impl` for every code byte.
+// Its own constants, which `check` goes by, since a pattern of a `match` cannot name one of an `impl` for every code byte.
 impl Com {
     pub const CODE: u8 = 0x54;
 
-    pub const WIRE_LEN: usize = LEN;
+    pub const WIRE_LEN: usize = 5;
 }

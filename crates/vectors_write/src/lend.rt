@@ -1,10 +1,9 @@
 // The lists of LED and OUT: records made by hand that are lent to the list writer.
 ghost use Rattle.std.specs.Prelude.{◌≡◌, List, ◌<◌, IfSome};
-ghost use Rattle.payload_util.specs.Prelude.{code, flat, put_checked};
-ghost use Rattle.payload_util.specs.Guards.{not_empty};
-ghost use Rattle.led.specs.Led.{led_code, led_bytes};
+ghost use Rattle.payload_util.specs.Prelude.{write, listed};
+ghost use Rattle.led.specs.Led.{leds};
 ghost use Rattle.led.specs.declared.LedRecord.{LedRecord};
-ghost use Rattle.output.specs.Output.{out_code, out_bytes};
+ghost use Rattle.output.specs.Output.{outputs};
 ghost use Rattle.output.specs.declared.OutputRecord.{OutputRecord};
 
 use crate::record;
@@ -20,8 +19,7 @@ const MOST: usize = 1024;
 // The arrays are made here: of a type that is a parameter, the check does not know that so many fit into memory. An ArrayVec would need a Default,
 // which a record has not.
 pub(crate) fn leds(f: &[u8], out: &mut [u8]) -> Option<Result<usize, Refusal>>
-    ensures written { IfSome result (λ w. (records : List LedRecord)
-        × ((w, out.new) ≡ put_checked (not_empty led_code records) led_code (flat led_bytes records) out.old)) }
+    ensures written { IfSome result (λ w. (records : List LedRecord) × ((w, out.new) ≡ write leds records out.old)) }
 {
     lend(
         &mut [record::led(&[]); MOST],
@@ -33,8 +31,7 @@ pub(crate) fn leds(f: &[u8], out: &mut [u8]) -> Option<Result<usize, Refusal>>
 }
 
 pub(crate) fn outputs(f: &[u8], out: &mut [u8]) -> Option<Result<usize, Refusal>>
-    ensures written { IfSome result (λ w. (records : List OutputRecord)
-        × ((w, out.new) ≡ put_checked (not_empty out_code records) out_code (flat out_bytes records) out.old)) }
+    ensures written { IfSome result (λ w. (records : List OutputRecord) × ((w, out.new) ≡ write outputs records out.old)) }
 {
     lend(
         &mut [record::output(&[]); MOST],
@@ -56,8 +53,7 @@ fn lend<R: ListRecord, F: Fn(&[u8]) -> R>(
 ) -> Option<Result<usize, Refusal>>
     requires callable { F.IsAlwaysCallable made }
     requires some { 0 < size }
-    ensures written { IfSome result (λ w. (records : List R)
-        × ((w, out.new) ≡ put_checked (not_empty (code R.form) records) (code R.form) (flat R.bytes records) out.old)) }
+    ensures written { IfSome result (λ w. (records : List R) × ((w, out.new) ≡ write (listed R.list_row) records out.old)) }
 {
     if f.len() % size != 0 {
         return None;

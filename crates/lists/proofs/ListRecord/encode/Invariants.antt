@@ -4,4 +4,4 @@ use Rattle.lists.proofs.State.{state}
 use Rattle.lists.proofs.ListRecord.encode.Given as goal
 
 abbrev pub invariant-loop-k : goal.invariant-loop-k
-invariant-loop-k g l = l.out ≡ state g.Self.ListRecord.bytes g.Self.ListRecord.WIRE_LEN l.records l.initial.out l.k
+invariant-loop-k g l = l.out ≡ state g.Self.ListRecord.list_row.bytes g.Self.ListRecord.list_row.width l.records l.initial.out l.k
